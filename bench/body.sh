@@ -7,11 +7,11 @@
 set -eu
 prefixes=${1:-1000000}; peers=${2:-20}; messages=${3:-5000000}
 here=$(dirname "$(realpath "$0")"); out=$here/out; scratch=$(dirname "$(mktemp -u)")/bgp_replay_bench/body; mkdir -p "$out" "$scratch/crates/body_bench/src"
-for crate in bgp_prefix mrt_frame bgp_update mrt_body; do # with what earlier checks kept, and no file that is gone
+for crate in bgp_prefix mrt_frame bgp_update peer_units mrt_body; do # with what earlier checks kept, and no file that is gone
   mkdir -p "$scratch/crates/$crate/out"; rm -rf "$scratch/crates/$crate"/{src,specs,proofs}
   cp -a "$here/../crates/$crate"/{src,specs,proofs} "$scratch/crates/$crate/"; cp -au "$here/../crates/$crate/out/." "$scratch/crates/$crate/out/" 2> "$out/body.log" || true
 done
-{ grep -E '^(bgp_prefix|mrt_frame|bgp_update|mrt_body):' "$here/../crates.txt"; echo 'body_bench: mrt_frame mrt_body'; } > "$scratch/crates.txt"
+{ grep -E '^(bgp_prefix|mrt_frame|bgp_update|peer_units|mrt_body):' "$here/../crates.txt"; echo 'body_bench: mrt_frame peer_units mrt_body'; } > "$scratch/crates.txt"
 cp "$here/body_bench.rattle" "$scratch/crates/body_bench/src/main.rt"
 (cd "$scratch/crates/body_bench" && rt run > "$out/body.log" 2>&1) || { tail -20 "$out/body.log"; exit 1; }
 cc -O2 -o "$out/gen_mrt" "$here/gen_mrt.c" -lm; cc -O2 -o "$out/body_records" "$here/body_records.c"

@@ -9,8 +9,8 @@ rounds=${1:-5}
 here=$(dirname "$(realpath "$0")"); out=$(dirname "$(mktemp -u)")/bgp_replay_bench/map; program=$out/crates/map_bench
 mkdir -p "$program/src"
 cp "$here/../HANDLES" "$out/"
-printf 'bgp_prefix:\nchunked_map: bgp_prefix\nmap_bench: bgp_prefix chunked_map anyhow\n' > "$out/crates.txt"
-rm -rf "$out/crates/bgp_prefix" "$out/crates/chunked_map"; cp -a "$here/../crates/bgp_prefix" "$here/../crates/chunked_map" "$out/crates/"
+{ grep -E '^(bgp_prefix|prefix_maps|chunked_map):' "$here/../crates.txt"; echo 'map_bench: bgp_prefix prefix_maps chunked_map anyhow'; } > "$out/crates.txt"
+rm -rf "$out"/crates/{bgp_prefix,prefix_maps,chunked_map}; cp -a "$here"/../crates/{bgp_prefix,prefix_maps,chunked_map} "$out/crates/"
 cp "$here/map_bench.rattle" "$program/src/main.rt"
 (cd "$program" && rt run -- keys > "$out/build.log" 2>&1) || { cat "$out/build.log"; exit 1; }
 rustc --edition 2021 -O -o "$out/map_baseline" "$here/map_baseline.rs"

@@ -6,16 +6,16 @@
 #   UNPROVED=1 tests/maps.sh CALLS SEED..     the same with no proof, with checks, at some thousand calls a second: tries a changed map
 # A family, map and kind fails at its first difference, whose seed and call are printed, or where a way of answering never occurred. The
 # program is proved (by JOBS (1) jobs) and built in a repository of its own below the folder for temporary files
-# (bgp_replay_bench/map_calls), over copies of the two crates and of what earlier checks kept of them; the next run finds it there. Needs
+# (bgp_replay_bench/map_calls), over copies of the three crates and of what earlier checks kept of them; the next run finds it there. Needs
 # rt. The last line is `N passed, M failed`.
 set -u
 top=$(dirname "$(dirname "$(realpath "$0")")"); work=$(mktemp -d); trap 'rm -rf "$work"' EXIT
 calls=${1:-200000}; [ $# = 0 ] || shift; [ $# -gt 0 ] || set -- 1 2 3
 wanted=36; out=$(dirname "$work")/bgp_replay_bench/map_calls
 [ -z "${UNPROVED:-}" ] || out=$work/copy
-mkdir -p "$out/crates/map_calls/src" && rm -rf "$out/crates/bgp_prefix" "$out/crates/chunked_map" &&
-  cp -a "$top/crates/bgp_prefix" "$top/crates/chunked_map" "$out/crates/" && cp "$top/HANDLES" "$out/" || exit 2
-printf 'bgp_prefix:\nchunked_map: bgp_prefix\nmap_calls: bgp_prefix chunked_map\n' > "$out/crates.txt"
+mkdir -p "$out/crates/map_calls/src" && rm -rf "$out"/crates/{bgp_prefix,prefix_maps,chunked_map} &&
+  cp -a "$top"/crates/{bgp_prefix,prefix_maps,chunked_map} "$out/crates/" && cp "$top/HANDLES" "$out/" || exit 2
+{ grep -E '^(bgp_prefix|prefix_maps|chunked_map):' "$top/crates.txt"; echo 'map_calls: bgp_prefix prefix_maps chunked_map'; } > "$out/crates.txt"
 cp "$top/tests/map_calls.rattle" "$out/crates/map_calls/src/main.rt" && cd "$out/crates/map_calls" || exit 2
 if [ -n "${UNPROVED:-}" ]; then
   rt try --steps 1 --seconds 600 -- "$calls" "$@" > "$work/lines" 2> "$work/log"

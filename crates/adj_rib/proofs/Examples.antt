@@ -17,13 +17,13 @@ use Rattle.bgp_update.specs.Keys.{written_key_at, keys_in, route_keys_in, key_at
 use Rattle.bgp_update.specs.Multiprotocol.{reach_in, reach_at, hop_at, unreach_in, next_hop_of, reached_keys, unreached_keys}
 use Rattle.bgp_update.specs.Attributes.{attribute_at, attributes_in, value_fault, route_from, entry_route, route_in}
 use Rattle.bgp_update.specs.Updates.{fields_in, said_update, update_in}
-use Rattle.mrt_body.specs.declared.state_rule.StateRule.TheVariants.{Recorded, Established}
-use Rattle.mrt_body.specs.declared.unit.Place.{Place}
-use Rattle.mrt_body.specs.Plain.{Payload}
-use Rattle.mrt_body.specs.declared.unit.Payload.TheVariants.{State, Message, Entry}
-use Rattle.mrt_body.specs.declared.unit.PeerAddr.TheVariants as addr
-use Rattle.mrt_body.specs.Plain.{Unit as ReplayUnit}
-use Rattle.mrt_body.specs.Events.{message_in, message_event_in, event_in}
+use Rattle.peer_units.specs.declared.state_rule.StateRule.TheVariants.{Recorded, Established}
+use Rattle.peer_units.specs.declared.unit.Place.{Place}
+use Rattle.peer_units.specs.Plain.{Payload}
+use Rattle.peer_units.specs.declared.unit.Payload.TheVariants.{State, Message, Entry}
+use Rattle.peer_units.specs.declared.unit.PeerAddr.TheVariants as addr
+use Rattle.peer_units.specs.Plain.{Unit as ReplayUnit}
+use Rattle.peer_units.specs.Events.{message_in, message_event_in, event_in}
 use Rattle.adj_rib.specs.declared.arrivals.Arrivals.{Arrivals}
 use Rattle.adj_rib.specs.declared.churn.Churn.{Churn}
 use Rattle.adj_rib.specs.Steps.{unit_steps, steps_of}

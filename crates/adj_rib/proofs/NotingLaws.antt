@@ -5,12 +5,12 @@ use Rattle.std.proofs.lemmas.List.Sums.{fold-append}
 use Rattle.std.proofs.lemmas.List.Elements.{filter-append}
 use Rattle.bgp_prefix.specs.Keys.{RouteKey}
 use Rattle.mrt_frame.specs.declared.fault.Fault.{Fault}
-use Rattle.mrt_body.specs.Plain.{Event}
-use Rattle.mrt_body.specs.Plain.{Unit as ReplayUnit}
-use Rattle.mrt_body.specs.declared.unit.Place.{Place}
-use Rattle.mrt_body.specs.DecodedEvents.{Means, is_recorded_event}
-use Rattle.mrt_body.specs.Events.{event_in}
-use Rattle.mrt_body.specs.Units.{is_recorded}
+use Rattle.peer_units.specs.Plain.{Event}
+use Rattle.peer_units.specs.Plain.{Unit as ReplayUnit}
+use Rattle.peer_units.specs.declared.unit.Place.{Place}
+use Rattle.peer_units.specs.DecodedEvents.{Means, is_recorded_event}
+use Rattle.peer_units.specs.Events.{event_in}
+use Rattle.peer_units.specs.Payloads.{is_recorded}
 use Rattle.adj_rib.specs.declared.churn.Churn.{Churn}
 use Rattle.adj_rib.specs.Plain.{Note}
 use Rattle.adj_rib.specs.Steps.{Step, break, clear, announce, withdraw}

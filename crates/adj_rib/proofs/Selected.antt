@@ -16,17 +16,17 @@ use Rattle.bgp_update.specs.Updates.{Update}
 use Rattle.bgp_update.specs.declared.width.Width.TheVariants.{Four}
 use Rattle.bgp_update.specs.Attributes.{route_in}
 use Rattle.bgp_update.specs.Hops.{by_hop}
-use Rattle.mrt_body.specs.Plain.{PrefixChoice}
-use Rattle.mrt_body.specs.Plain.{Event}
-use Rattle.mrt_body.specs.declared.meaning.Event.TheVariants as event
-use Rattle.mrt_body.specs.declared.state_rule.StateRule.{StateRule}
-use Rattle.mrt_body.specs.Plain.{Payload}
-use Rattle.mrt_body.specs.declared.unit.Payload.TheVariants.{State, Message, Entry, Clear}
-use Rattle.mrt_body.specs.Plain.{Unit as ReplayUnit}
-use Rattle.mrt_body.specs.States.{up_by, established_by}
-use Rattle.mrt_body.specs.Events.{event_in}
-use Rattle.mrt_body.specs.Choices.{is_open, is_chosen}
-use Rattle.mrt_body.specs.Selections.{has_chosen, speaks_of, concerns}
+use Rattle.peer_units.specs.Plain.{PrefixChoice}
+use Rattle.peer_units.specs.Plain.{Event}
+use Rattle.peer_units.specs.declared.meaning.Event.TheVariants as event
+use Rattle.peer_units.specs.declared.state_rule.StateRule.{StateRule}
+use Rattle.peer_units.specs.Plain.{Payload}
+use Rattle.peer_units.specs.declared.unit.Payload.TheVariants.{State, Message, Entry, Clear}
+use Rattle.peer_units.specs.Plain.{Unit as ReplayUnit}
+use Rattle.peer_units.specs.States.{up_by, established_by}
+use Rattle.peer_units.specs.Events.{event_in}
+use Rattle.peer_units.specs.Choices.{is_open, is_chosen}
+use Rattle.peer_units.specs.Selections.{has_chosen, speaks_of, concerns}
 use Rattle.adj_rib.specs.declared.outcome.Outcome.{Outcome}
 use Rattle.adj_rib.specs.Steps.{Step, break, clear, announce, withdraw, state_says, last_said, is_up, is_established, withdrawals, announcements, reachings, update_steps, reading_steps, unit_steps, steps_of}
 use Rattle.adj_rib.specs.Tables.{said_of, route_at, table_of}

@@ -4,7 +4,7 @@ use Rattle.std.proofs.Common.{◌≡◌, Bool, true, false, List, [], ◌∷◌,
 use Rattle.std.specs.FinMap as finite
 use Rattle.bgp_prefix.specs.Keys.{RouteKey}
 use Rattle.bgp_update.specs.declared.route.Route.{Route}
-use Rattle.mrt_body.specs.Plain.{Unit as ReplayUnit}
+use Rattle.peer_units.specs.Plain.{Unit as ReplayUnit}
 use Rattle.adj_rib.specs.declared.arrivals.Arrivals.{Arrivals}
 use Rattle.adj_rib.specs.Plain.{Note}
 use Rattle.adj_rib.specs.Steps.{is_established, steps_of}

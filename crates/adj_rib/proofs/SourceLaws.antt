@@ -13,13 +13,13 @@ use Rattle.mrt_frame.specs.declared.fault.Fault.{Fault}
 use Rattle.bgp_update.specs.declared.route.Route.{Route}
 use Rattle.bgp_update.specs.Updates.{Update}
 use Rattle.bgp_update.specs.Hops.{by_hop}
-use Rattle.mrt_body.specs.Plain.{Payload}
-use Rattle.mrt_body.specs.declared.unit.Payload.TheVariants.{State, Message, Entry, Clear}
-use Rattle.mrt_body.specs.Plain.{Unit as ReplayUnit}
-use Rattle.mrt_body.specs.Plain.{Event}
-use Rattle.mrt_body.specs.declared.meaning.Event.TheVariants as event
-use Rattle.mrt_body.specs.Events.{event_in}
-use Rattle.mrt_body.specs.States.{breaks}
+use Rattle.peer_units.specs.Plain.{Payload}
+use Rattle.peer_units.specs.declared.unit.Payload.TheVariants.{State, Message, Entry, Clear}
+use Rattle.peer_units.specs.Plain.{Unit as ReplayUnit}
+use Rattle.peer_units.specs.Plain.{Event}
+use Rattle.peer_units.specs.declared.meaning.Event.TheVariants as event
+use Rattle.peer_units.specs.Events.{event_in}
+use Rattle.peer_units.specs.States.{breaks}
 use Rattle.adj_rib.specs.Steps.{Step, break, clear, announce, withdraw, is_up, update_steps, withdrawals, announcements, reachings, reading_steps, unit_steps, steps_of}
 use Rattle.adj_rib.specs.Tables.{said_of, route_at, table_of}
 use Rattle.adj_rib.specs.Churns.{reading_of}

@@ -7,14 +7,14 @@ use Rattle.std.proofs.lemmas.Bool.Decides.{nat_tests}
 use Rattle.std.proofs.lemmas.List.Elements.{All-nil, All-head, All-tail, All-push}
 use Rattle.mrt_frame.specs.Positions.{flat_map_after}
 use Rattle.mrt_frame.specs.declared.fault.Fault.{Fault}
-use Rattle.mrt_body.specs.Plain.{Event}
-use Rattle.mrt_body.specs.declared.state_rule.StateRule.{StateRule}
-use Rattle.mrt_body.specs.declared.state_rule.StateRule.TheVariants.{Recorded, Established}
-use Rattle.mrt_body.specs.Plain.{Payload}
-use Rattle.mrt_body.specs.declared.unit.Payload.TheVariants.{State, Message, Entry, Clear}
-use Rattle.mrt_body.specs.Plain.{Unit as ReplayUnit}
-use Rattle.mrt_body.specs.Events.{event_in}
-use Rattle.mrt_body.specs.States.{ESTABLISHED, IsByRule, AreByRule, breaks, established_by, up_by}
+use Rattle.peer_units.specs.Plain.{Event}
+use Rattle.peer_units.specs.declared.state_rule.StateRule.{StateRule}
+use Rattle.peer_units.specs.declared.state_rule.StateRule.TheVariants.{Recorded, Established}
+use Rattle.peer_units.specs.Plain.{Payload}
+use Rattle.peer_units.specs.declared.unit.Payload.TheVariants.{State, Message, Entry, Clear}
+use Rattle.peer_units.specs.Plain.{Unit as ReplayUnit}
+use Rattle.peer_units.specs.Events.{event_in}
+use Rattle.peer_units.specs.States.{ESTABLISHED, IsByRule, AreByRule, breaks, established_by, up_by}
 use Rattle.adj_rib.specs.Churns.{churn_of, is_routing, reading_of, stopped}
 use Rattle.adj_rib.specs.Steps.{state_says, is_established, is_up}
 use Rattle.adj_rib.specs.Applied.{up_after}

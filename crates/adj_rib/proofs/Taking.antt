@@ -16,18 +16,18 @@ use Rattle.bgp_update.specs.declared.route.Route.{Route}
 use Rattle.bgp_update.specs.Attributes.{route_in}
 use Rattle.bgp_update.specs.Families.{FamilyOf}
 use Rattle.bgp_update.specs.Updates.{Update, update_in}
-use Rattle.mrt_body.specs.declared.state_rule.StateRule.{StateRule}
-use Rattle.mrt_body.specs.Plain.{Payload}
-use Rattle.mrt_body.specs.declared.unit.Payload.TheVariants.{State, Message, Entry, Clear}
-use Rattle.mrt_body.specs.Plain.{Unit as ReplayUnit}
-use Rattle.mrt_body.specs.declared.unit.Damage.{Damage}
-use Rattle.mrt_body.specs.declared.unit.Place.{Place}
-use Rattle.mrt_body.specs.Plain.{Event}
-use Rattle.mrt_body.specs.declared.meaning.Event.TheVariants as event
-use Rattle.mrt_body.specs.States.{up_by, established_by}
-use Rattle.mrt_body.specs.Units.{is_recorded}
-use Rattle.mrt_body.specs.DecodedEvents.{Means, is_recorded_event}
-use Rattle.mrt_body.specs.Events.{UPDATE, message_in, message_event_in, event_in}
+use Rattle.peer_units.specs.declared.state_rule.StateRule.{StateRule}
+use Rattle.peer_units.specs.Plain.{Payload}
+use Rattle.peer_units.specs.declared.unit.Payload.TheVariants.{State, Message, Entry, Clear}
+use Rattle.peer_units.specs.Plain.{Unit as ReplayUnit}
+use Rattle.peer_units.specs.declared.unit.Damage.{Damage}
+use Rattle.peer_units.specs.declared.unit.Place.{Place}
+use Rattle.peer_units.specs.Plain.{Event}
+use Rattle.peer_units.specs.declared.meaning.Event.TheVariants as event
+use Rattle.peer_units.specs.States.{up_by, established_by}
+use Rattle.peer_units.specs.Payloads.{is_recorded}
+use Rattle.peer_units.specs.DecodedEvents.{Means, is_recorded_event}
+use Rattle.peer_units.specs.Events.{UPDATE, message_in, message_event_in, event_in}
 use Rattle.adj_rib.specs.declared.arrivals.Arrivals.{Arrivals}
 use Rattle.adj_rib.specs.declared.churn.Churn.{Churn}
 use Rattle.adj_rib.specs.Steps.{Step, state_says, last_said, is_up, is_established}

@@ -4,13 +4,13 @@ use Rattle.std.specs.FinMap as finite
 use Rattle.bgp_prefix.specs.Keys.{key_cmp}
 use Rattle.mrt_frame.specs.declared.fault.Fault.{Fault}
 use Rattle.bgp_update.specs.declared.route.Route.{Route}
-use Rattle.mrt_body.specs.Plain.{Unit as ReplayUnit}
-use Rattle.mrt_body.specs.declared.unit.Damage.{Damage}
-use Rattle.mrt_body.specs.Plain.{Event}
-use Rattle.mrt_body.specs.declared.meaning.Event.TheVariants as event
-use Rattle.mrt_body.specs.declared.state_rule.StateRule.{StateRule}
-use Rattle.mrt_body.specs.States.{established_by, up_by}
-use Rattle.mrt_body.specs.Units.{is_recorded}
+use Rattle.peer_units.specs.Plain.{Unit as ReplayUnit}
+use Rattle.peer_units.specs.declared.unit.Damage.{Damage}
+use Rattle.peer_units.specs.Plain.{Event}
+use Rattle.peer_units.specs.declared.meaning.Event.TheVariants as event
+use Rattle.peer_units.specs.declared.state_rule.StateRule.{StateRule}
+use Rattle.peer_units.specs.States.{established_by, up_by}
+use Rattle.peer_units.specs.Payloads.{is_recorded}
 use Rattle.adj_rib.specs.declared.churn.Churn.{Churn}
 use Rattle.adj_rib.specs.declared.outcome.Outcome.{Outcome}
 use Rattle.adj_rib.specs.declared.outcome.Outcome.TheVariants.{Added, Changed, Same, Gone, Void, Reset, Cleared}

@@ -1,10 +1,10 @@
 -- How many units came, and where the first one stands.
 use Rattle.std.specs.Prelude.{◌+◌, List, length, Some, None, unwrap_or, if◌then◌else◌}
 use Rattle.std.specs.List.{filter_map}
-use Rattle.mrt_body.specs.Plain.{Unit as ReplayUnit}
-use Rattle.mrt_body.specs.declared.unit.Place.{Place}
+use Rattle.peer_units.specs.Plain.{Unit as ReplayUnit}
+use Rattle.peer_units.specs.declared.unit.Place.{Place}
 use Rattle.adj_rib.specs.declared.arrivals.Arrivals.{Arrivals}
-use Rattle.mrt_body.specs.Units.{is_recorded}
+use Rattle.peer_units.specs.Payloads.{is_recorded}
 use Rattle.adj_rib.specs.Churns.{first_of, stopped}
 
 -- where the recorded units stand

@@ -4,13 +4,13 @@ use Rattle.std.specs.List.{count_by, filter_map, last_or}
 use Rattle.mrt_frame.specs.declared.fault.Fault.{Fault}
 use Rattle.bgp_update.specs.declared.route.Route.{Route}
 use Rattle.mrt_frame.specs.Positions.{flat_map_after}
-use Rattle.mrt_body.specs.Plain.{Unit as ReplayUnit}
-use Rattle.mrt_body.specs.declared.unit.Damage.{Damage}
-use Rattle.mrt_body.specs.Plain.{Event}
-use Rattle.mrt_body.specs.declared.meaning.Event.TheVariants as event
-use Rattle.mrt_body.specs.States.{breaks}
-use Rattle.mrt_body.specs.Events.{event_in}
-use Rattle.mrt_body.specs.Units.{is_recorded}
+use Rattle.peer_units.specs.Plain.{Unit as ReplayUnit}
+use Rattle.peer_units.specs.declared.unit.Damage.{Damage}
+use Rattle.peer_units.specs.Plain.{Event}
+use Rattle.peer_units.specs.declared.meaning.Event.TheVariants as event
+use Rattle.peer_units.specs.States.{breaks}
+use Rattle.peer_units.specs.Events.{event_in}
+use Rattle.peer_units.specs.Payloads.{is_recorded}
 use Rattle.adj_rib.specs.declared.churn.Churn.{Churn}
 use Rattle.adj_rib.specs.declared.outcome.Outcome.{Outcome}
 use Rattle.adj_rib.specs.declared.outcome.Outcome.TheVariants.{Added, Changed, Same, Gone, Void, Reset, Cleared}

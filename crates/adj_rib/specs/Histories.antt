@@ -6,9 +6,9 @@ use Rattle.mrt_frame.specs.Positions.{flat_map_after}
 use Rattle.bgp_prefix.specs.Keys.{RouteKey}
 use Rattle.bgp_update.specs.declared.route.Route.{Route}
 use Rattle.bgp_update.specs.Equality.{route_eq}
-use Rattle.mrt_body.specs.Plain.{PrefixChoice}
-use Rattle.mrt_body.specs.declared.unit.Damage.{Damage}
-use Rattle.mrt_body.specs.Plain.{Unit as ReplayUnit}
+use Rattle.peer_units.specs.Plain.{PrefixChoice}
+use Rattle.peer_units.specs.declared.unit.Damage.{Damage}
+use Rattle.peer_units.specs.Plain.{Unit as ReplayUnit}
 use Rattle.adj_rib.specs.declared.churn.Churn.{Churn}
 use Rattle.adj_rib.specs.Plain.{Note}
 use Rattle.adj_rib.specs.declared.outcome.What.{What}

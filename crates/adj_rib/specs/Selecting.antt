@@ -4,10 +4,10 @@ use Rattle.std.specs.List.{filter}
 use Rattle.mrt_frame.specs.Positions.{flat_map_after}
 use Rattle.bgp_prefix.specs.Keys.{RouteKey}
 use Rattle.bgp_update.specs.declared.route.Route.{Route}
-use Rattle.mrt_body.specs.Plain.{PrefixChoice}
-use Rattle.mrt_body.specs.Plain.{Unit as ReplayUnit}
-use Rattle.mrt_body.specs.Choices.{is_chosen}
-use Rattle.mrt_body.specs.Selections.{concerns}
+use Rattle.peer_units.specs.Plain.{PrefixChoice}
+use Rattle.peer_units.specs.Plain.{Unit as ReplayUnit}
+use Rattle.peer_units.specs.Choices.{is_chosen}
+use Rattle.peer_units.specs.Selections.{concerns}
 use Rattle.adj_rib.specs.declared.outcome.Outcome.{Outcome}
 use Rattle.adj_rib.specs.Steps.{Step, break, clear, announce, withdraw}
 use Rattle.adj_rib.specs.Churns.{outcome_of}

@@ -2,13 +2,13 @@
 use Rattle.std.specs.Prelude.{◌≡◌, Bool, false, List}
 use Rattle.bgp_prefix.specs.Keys.{RouteKey}
 use Rattle.bgp_update.specs.declared.route.Route.{Route}
-use Rattle.mrt_body.specs.Plain.{Unit as ReplayUnit}
-use Rattle.mrt_body.specs.declared.unit.Damage.{Damage}
+use Rattle.peer_units.specs.Plain.{Unit as ReplayUnit}
+use Rattle.peer_units.specs.declared.unit.Damage.{Damage}
 use Rattle.adj_rib.specs.declared.arrivals.Arrivals.{Arrivals}
 use Rattle.adj_rib.specs.declared.churn.Churn.{Churn}
 use Rattle.adj_rib.specs.Steps.{is_up, is_established, steps_of}
 use Rattle.adj_rib.specs.Tables.{table_of}
-use Rattle.mrt_body.specs.Plain.{PrefixChoice}
+use Rattle.peer_units.specs.Plain.{PrefixChoice}
 use Rattle.adj_rib.specs.Selecting.{chooses, selected_entries}
 use Rattle.adj_rib.specs.Arrived.{arrivals_of}
 use Rattle.adj_rib.specs.Churns.{churn_of, damaged_of}

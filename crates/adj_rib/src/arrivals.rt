@@ -1,6 +1,6 @@
 //! How many units of a peer came, and where the first one stands.
 
-use mrt_body::Place;
+use peer_units::Place;
 
 /// How many units of a peer were taken, and where the first one stands.
 #[derive(Clone, Copy, Debug, PartialEq, Eq)]

@@ -7,15 +7,15 @@ ghost use Rattle.bgp_prefix.specs.Keys.{key_cmp, RouteKey};
 ghost use Rattle.bgp_update.specs.declared.route.Route.{Route};
 ghost use Rattle.adj_rib.specs.Steps.{Step, steps_of, is_established, is_up};
 ghost use Rattle.adj_rib.specs.Tables.{Holds, table_of};
-ghost use Rattle.mrt_body.specs.Plain.{Unit as ReplayUnit, PrefixChoice as Choice};
+ghost use Rattle.peer_units.specs.Plain.{Unit as ReplayUnit, PrefixChoice as Choice};
 ghost use Rattle.adj_rib.specs.Sources.{ComesFrom, EndsRoutes};
-ghost use Rattle.mrt_body.specs.Selections.{concerns};
+ghost use Rattle.peer_units.specs.Selections.{concerns};
 ghost use Rattle.adj_rib.specs.Churns.{churn_of, outcomes_of};
 ghost use Rattle.adj_rib.specs.Histories.{chosen_notes, churn_within, unit_notes};
 ghost use Rattle.adj_rib.specs.Selecting.{chooses, concerned, selected_steps, selected_entries, selected_outcomes};
-ghost use Rattle.mrt_body.specs.declared.state_rule.StateRule.TheVariants.{Established, Recorded};
-ghost use Rattle.mrt_body.specs.declared.unit.Payload.TheVariants.{State};
-ghost use Rattle.mrt_body.specs.States.{ESTABLISHED, AreByRule, breaks};
+ghost use Rattle.peer_units.specs.declared.state_rule.StateRule.TheVariants.{Established, Recorded};
+ghost use Rattle.peer_units.specs.declared.unit.Payload.TheVariants.{State};
+ghost use Rattle.peer_units.specs.States.{ESTABLISHED, AreByRule, breaks};
 
 /// The table that steps leave has exactly the routes that hold, in the order of their keys.
 pub fn table_has_what_holds()

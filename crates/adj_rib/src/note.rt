@@ -3,7 +3,7 @@
 use crate::outcome::What;
 use bgp_prefix::{Memory, Prefix, RouteKey};
 use bgp_update::{RouteRef, Unicast};
-use mrt_body::ChosenPrefixes;
+use peer_units::ChosenPrefixes;
 use std::alloc::Global;
 
 /// Which keys are chosen. The routes of the others aren't kept.

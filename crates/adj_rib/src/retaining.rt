@@ -11,7 +11,7 @@ use crate::route_table::RouteTable;
 use crate::routes::RouteId;
 use bgp_prefix::{Memory, Prefix, PrefixMap, RouteKey};
 use bgp_update::{RouteRef, Unicast};
-use mrt_body::ChosenPrefixes;
+use peer_units::ChosenPrefixes;
 use std::alloc::Global;
 
 /// Returns the keys of these entries that aren't chosen.

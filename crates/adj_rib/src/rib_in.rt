@@ -10,7 +10,7 @@ use crate::route_table::RouteTable;
 use crate::routes::RouteId;
 use bgp_prefix::{Memory, Prefix, PrefixMap, RouteKey};
 use bgp_update::{HashedRoute, RouteSpan, Unicast, UpdateRef};
-use mrt_body::{Damage, EventRef, Place, StateRule, clears_are_told};
+use peer_units::{Damage, EventRef, Place, StateRule, clears_are_told};
 use std::alloc::Global;
 
 /// A peer's Adj-RIB-In, along with what is counted and listed for the peer.
@@ -25,9 +25,9 @@ pub(crate) struct RibIn<M: PrefixMap<RouteId>> {
 
 impl<F: Unicast, M: PrefixMap<RouteId, Addr = F> + Drop> RibIn<M> {
     ghost use Rattle.std.specs.Prelude.{◌≡◌, Bool, true, Ok, OnOk, if◌then◌else◌};
-    ghost use Rattle.mrt_body.specs.DecodedEvents.{event_of, Means};
-    ghost use Rattle.mrt_body.specs.Plain.{Unit as ReplayUnit};
-    ghost use Rattle.mrt_body.specs.declared.meaning.Event.TheVariants as events;
+    ghost use Rattle.peer_units.specs.DecodedEvents.{event_of, Means};
+    ghost use Rattle.peer_units.specs.Plain.{Unit as ReplayUnit};
+    ghost use Rattle.peer_units.specs.declared.meaning.Event.TheVariants as events;
     ghost use Rattle.bgp_prefix.specs.Keys.{RouteKey as Key};
     ghost use Rattle.adj_rib.specs.Applied.{START, counted_if, refused};
     ghost use Rattle.adj_rib.specs.Histories.{is_before};

@@ -3,8 +3,8 @@
 ghost use Rattle.std.specs.Prelude.{◌≡◌, [], ◌∷◌, ◌++◌, List, OnOk, is_err, IsErr, IsTrue};
 ghost use Rattle.std.specs.FinMap as finite;
 ghost use Rattle.adj_rib.specs.Sessions.{StandsFor, chosen_session};
-ghost use Rattle.mrt_body.specs.DecodedEvents.{event_of, Means};
-ghost use Rattle.mrt_body.specs.Plain.{Unit as ReplayUnit};
+ghost use Rattle.peer_units.specs.DecodedEvents.{event_of, Means};
+ghost use Rattle.peer_units.specs.Plain.{Unit as ReplayUnit};
 
 use crate::arrivals::Arrivals;
 use crate::churn::Churn;
@@ -15,7 +15,7 @@ use crate::route_table::RouteTable;
 use crate::routes::RouteId;
 use bgp_prefix::{Memory, Prefix, PrefixMap};
 use bgp_update::{RouteSpan, Unicast};
-use mrt_body::{ChosenPrefixes, Damage, DecodedEvents, EventRef, Place, UnitOf, clears_are_told};
+use peer_units::{ChosenPrefixes, Damage, DecodedEvents, EventRef, Place, UnitOf, clears_are_told};
 use std::alloc::Global;
 use std::marker::Model;
 

@@ -3,10 +3,10 @@
 ghost use Rattle.std.specs.Prelude.{◌≡◌, [], ◌∷◌, ◌++◌, List, OnOk, Option, ℕ};
 ghost use Rattle.std.specs.List.{fold};
 ghost use Rattle.std.specs.FinMap as finite;
-ghost use Rattle.mrt_body.specs.DecodedEvents.{event_of};
-ghost use Rattle.mrt_body.specs.Events.{event_in};
-ghost use Rattle.mrt_body.specs.Plain.{PrefixChoice as Choice};
-ghost use Rattle.mrt_body.specs.Plain.{Unit as ReplayUnit};
+ghost use Rattle.peer_units.specs.DecodedEvents.{event_of};
+ghost use Rattle.peer_units.specs.Events.{event_in};
+ghost use Rattle.peer_units.specs.Plain.{PrefixChoice as Choice};
+ghost use Rattle.peer_units.specs.Plain.{Unit as ReplayUnit};
 ghost use Rattle.adj_rib.specs.Histories.{WatchesFor, chosen_notes, unit_notes};
 
 use crate::churn::Churn;
@@ -16,7 +16,7 @@ use crate::route_table::RouteTable;
 use crate::routes::RouteId;
 use bgp_prefix::{Memory, Prefix, PrefixMap};
 use bgp_update::Unicast;
-use mrt_body::{ChosenPrefixes, Damage, EventRef, UnitRef};
+use peer_units::{ChosenPrefixes, Damage, EventRef, UnitRef};
 use std::alloc::Global;
 use std::marker::Model;
 

@@ -3,7 +3,4 @@ pub mod Keys
 pub mod Maps
 pub mod Ordered
 pub mod Searches
-pub mod Tries
-pub mod Directions
-pub mod Splits
 pub mod Words

@@ -6,7 +6,7 @@ use command_line::{
     AddressText, FileListError, FileName, ListError, fault_of_file_list, fault_of_list,
     read_file_list, read_list,
 };
-use mrt_body::PrefixChoice;
+use peer_units::PrefixChoice;
 use std::alloc::AllocError;
 use std::io::{self, ErrorKind, Read};
 

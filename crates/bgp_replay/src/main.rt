@@ -36,16 +36,17 @@ use command_line::{
 };
 use lane_deal::{ByTurns, Plan};
 use lists::{listed_dumps, listed_prefixes};
-use mrt_body::{ChosenPrefixes, PrefixChoice, Reach, Selection};
 use mrt_frame::{Counted, ReplayError};
 use mrt_replay::{Summary, run, status};
 use notes::tell_notes;
 use packed_io::PackedFiles;
+use peer_units::{ChosenPrefixes, PrefixChoice, Reach, Selection};
 use replay_io::{
     Board, Counter, Counts, Device, Files, Input, Naps, OpenError, Output, Report, Watched,
     columns, inputs_of, packed_files_of, terminal_width,
 };
-use rib_report::{Request, WrittenAddress};
+use report_request::Request;
+use rib_report::WrittenAddress;
 use std::alloc::Global;
 use std::env::{Env, FillError};
 use std::io::ErrorKind;

@@ -2,8 +2,9 @@
 //! note is a line that begins with two spaces and `note: `; no report and no status depends on it.
 
 use command_line::{AddressFamily, FileName};
-use mrt_body::{Marked, PeerAddr, PeerKey, RibRule};
+use mrt_body::Marked;
 use mrt_replay::{Idle, Summary};
+use peer_units::{PeerAddr, PeerKey, RibRule};
 use replay_io::Input;
 use std::alloc::{AllocError, Global};
 

@@ -6,7 +6,7 @@ use mrt_frame::ReplayError;
 use mrt_replay::Summary;
 use packed_io::{Effect, Format, PackedFault};
 use replay_io::{Counts, Device, Dump, FileCounts, Input, Output};
-use rib_report::Request;
+use report_request::Request;
 use std::fmt::Display;
 use std::io::{self, ErrorKind};
 use std::time::Duration;

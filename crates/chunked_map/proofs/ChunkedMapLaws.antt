@@ -14,10 +14,10 @@ use Rattle.bgp_prefix.specs.Keys.{key_cmp, is_nil, RouteKey}
 use Rattle.chunked_map.specs.ChunkedMaps.{in_leaves, first_key, AreNodes, EachKey, IsIndexOfKey, IsIndexOfPrefix, IsCut, lesser_key}
 use Rattle.std.specs.Option.{option_or}
 use Rattle.bgp_prefix.proofs.KeyLaws.{key_cmp_total, find-parts, or_none}
-use Rattle.bgp_prefix.proofs.OrderLaws.{sorted_parts, All-parts}
+use Rattle.prefix_maps.proofs.OrderLaws.{sorted_parts, All-parts}
 use Rattle.bgp_prefix.proofs.SearchLaws.{first}
 use Rattle.bgp_prefix.proofs.SortedMaps.{of_put}
-use Rattle.bgp_prefix.proofs.RemoveLaws.{without}
+use Rattle.prefix_maps.proofs.RemoveLaws.{without}
 use Rattle.chunked_map.proofs.KeyedLists.{IsNarrowed, narrowed, map_remove, less_past, more_past, All-insert, up_to_pair, up_to_false, each_second, each_weaker, find_below, find_above, put_below, put_above, put_last, each_first, without_below, without_above, each_before, each_below_all, node_read}
 
 module _ {V : Type 0} where

@@ -11,11 +11,11 @@ use Rattle.std.proofs.lemmas.List.{get_or-map}
 use Rattle.bgp_prefix.specs.Prefixes.{IpPrefix, prefix_cmp}
 use Rattle.bgp_prefix.specs.Keys.{key_cmp, is_nil, RouteKey}
 use Rattle.chunked_map.specs.ChunkedMaps.{EachKey}
-use Rattle.bgp_prefix.proofs.JumpLaws.{first_up_to}
+use Rattle.prefix_maps.proofs.JumpLaws.{first_up_to}
 use Rattle.bgp_prefix.proofs.KeyLaws.{key_cmp_total, key_cmp_exact}
 use Rattle.bgp_prefix.proofs.SearchLaws.{turn, first, second, less, tied_less, tied_greater}
 use Rattle.bgp_prefix.proofs.SortedMaps.{less_of}
-use Rattle.bgp_prefix.proofs.RemoveLaws.{without}
+use Rattle.prefix_maps.proofs.RemoveLaws.{without}
 
 -- what a search has left of a list: P holds of the item before, and Q of the one at the end
 pub record IsNarrowed {X : Type 0} (P Q : X → Type 0) (xs : List X) (low high : ℕ) : Type 0 where

@@ -9,15 +9,15 @@ use Rattle.bgp_prefix.specs.Prefixes.{IpPrefix, prefix_cmp, prefix_eq, contains,
 use Rattle.bgp_prefix.specs.Keys.{key_cmp, is_nil, RouteKey}
 use Rattle.chunked_map.specs.ChunkedMaps.{in_leaves, first_key, AreNodes, EachKey, IsIndexOfPrefix, IsLastUpTo, IsBefore}
 use Rattle.std.specs.List.Sorted.{IsPartitionPoint}
-use Rattle.bgp_prefix.proofs.JumpLaws.{IsLimit, none_found, match_found, falls, IsLimit-miss}
-use Rattle.bgp_prefix.proofs.NetworkLaws.{network}
+use Rattle.prefix_maps.proofs.JumpLaws.{IsLimit, none_found, match_found, falls, IsLimit-miss}
+use Rattle.prefix_maps.proofs.NetworkLaws.{network}
 use Rattle.bgp_prefix.specs.Maps.{IsLongestMatch, HasNoMatch, paths_of}
 use Rattle.std.specs.FinMap as finite
 use Rattle.std.specs.List.{filter}
 use Rattle.bgp_prefix.proofs.KeyLaws.{key_cmp_total}
 use Rattle.bgp_prefix.proofs.SearchLaws.{sorted_at}
 use Rattle.bgp_prefix.proofs.SortedMaps.{other_of_less, other_of_greater, lesser_prefix, prefix_rises, greatest}
-use Rattle.bgp_prefix.proofs.ListedLaws.{paths_of-append}
+use Rattle.prefix_maps.proofs.ListedLaws.{paths_of-append}
 use Rattle.chunked_map.proofs.KeyedLists.{le, EachBelow, each_append, each_weaker, each_before}
 use Rattle.chunked_map.proofs.ChunkedMapLaws.{leaves_append, around, keys_from, length_held, leaves_more}
 

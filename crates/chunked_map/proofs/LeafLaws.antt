@@ -16,8 +16,8 @@ use Rattle.bgp_prefix.specs.Searches.{IsGap}
 use Rattle.chunked_map.specs.ChunkedMaps.{routes_in, IsArrays, ids_put, ids_removed}
 use Rattle.bgp_prefix.proofs.KeyLaws.{key_cmp_total}
 use Rattle.bgp_prefix.proofs.SearchLaws.{sorted_at, turn}
-use Rattle.bgp_prefix.proofs.JumpLaws.{first_up_to}
-use Rattle.bgp_prefix.proofs.ListedLaws.{paths_of-append}
+use Rattle.prefix_maps.proofs.JumpLaws.{first_up_to}
+use Rattle.prefix_maps.proofs.ListedLaws.{paths_of-append}
 use Rattle.chunked_map.proofs.KeyedLists.{IsNarrowed, narrowed}
 use lib.ListN.{replicate}
 

@@ -5,7 +5,7 @@ use Rattle.std.specs.FinMap.{find, put}
 use Rattle.std.specs.FinMap.Entries.{length-put, length_without}
 use Rattle.bgp_prefix.specs.Keys.{key_cmp, RouteKey}
 use Rattle.bgp_prefix.proofs.KeyLaws.{key_cmp_total}
-use Rattle.bgp_prefix.proofs.RemoveLaws.{without}
+use Rattle.prefix_maps.proofs.RemoveLaws.{without}
 use Rattle.chunked_map.specs.ChunkedMaps.{in_leaves, AreNodes, EachKey, IsMap}
 use Rattle.chunked_map.proofs.KeyedLists.{each_put, each_weaker, each_without}
 

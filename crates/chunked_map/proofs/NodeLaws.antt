@@ -7,7 +7,7 @@ use Rattle.std.proofs.lemmas.List.{get_or-set_same, length-map, map-set, take-ma
 use Rattle.std.proofs.Math.Seq.{map-set_same}
 use Rattle.bgp_prefix.specs.Prefixes.{IsIpPrefix}
 use Rattle.bgp_prefix.specs.Keys.{key_cmp, is_nil, RouteKey}
-use Rattle.bgp_prefix.proofs.RemoveLaws.{without}
+use Rattle.prefix_maps.proofs.RemoveLaws.{without}
 use Rattle.chunked_map.specs.ChunkedMaps.{in_leaves, first_key, lesser_key, AreNodes, EachKey, IsIndexOfKey, IsCut}
 use Rattle.chunked_map.proofs.KeyedLists.{node_read, map_insert, map_remove}
 use Rattle.chunked_map.proofs.ChunkedMapLaws.{leaf_sorted, find_in, put_in, nodes_put, lesser_at, without_in, nodes_gone, nodes_without, nodes_split, each_of_leaf, leaf_pushed, nodes_pushed, length_nil, length_held, nodes_push, nodes_cut}

@@ -3,7 +3,7 @@ use Rattle.std.proofs.Common.{◌≡◌, ℕ, ◌+◌, ◌≤◌, ◌<◌, Bool,
 use Rattle.std.specs.List.{AllZip, filter, position}
 use Rattle.std.proofs.lemmas.List.{append-nil, length-append, map-append}
 use Rattle.std.proofs.lemmas.List.Elements.{filter-append}
-use Rattle.mrt_body.specs.Plain.{PrefixChoice}
+use Rattle.peer_units.specs.Plain.{PrefixChoice}
 use Rattle.command_line.specs.Choices.{SpellsChoice, IsNoChoice}
 use Rattle.command_line.proofs.Pieces.{piece_before, piece_alone}
 use Rattle.command_line.specs.Lists.{lines_of, is_blank, in_front, trimmed, is_passed, entries, NameChoices, IsFirstFault}

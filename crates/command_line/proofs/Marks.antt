@@ -6,8 +6,8 @@ use Rattle.std.specs.Fmt.{decimal}
 use Rattle.std.proofs.lemmas.List.{append_cancel_right, append-nil}
 use Rattle.std.proofs.Math.Seq.{get_or-append_seam}
 use Rattle.bgp_prefix.specs.Prefixes.{IpPrefix}
-use Rattle.mrt_body.specs.declared.choice.Reach.{Reach}
-use Rattle.mrt_body.specs.declared.choice.Reach.TheVariants.{Exact, Inside, Around}
+use Rattle.peer_units.specs.declared.choice.Reach.{Reach}
+use Rattle.peer_units.specs.declared.choice.Reach.TheVariants.{Exact, Inside, Around}
 use Rattle.command_line.specs.Choices.{IsPlain, SpellsPrefix, with_length, alone, mark_of, EndsInNoMark}
 use Rattle.command_line.proofs.Plain.{plain_decimal}
 

@@ -4,7 +4,7 @@ use Rattle.std.specs.List.{position}
 use Rattle.std.specs.Fmt.{decimal}
 use Rattle.std.proofs.lemmas.Fmt.{decimal_injective}
 use Rattle.bgp_prefix.specs.Prefixes.{IpPrefix, IsIpPrefix, network_of}
-use Rattle.mrt_body.specs.declared.choice.Reach.{Reach}
+use Rattle.peer_units.specs.declared.choice.Reach.{Reach}
 use Rattle.ip_text.proofs.WrittenLaws.{IsIpv6Text-short_ipv6_text}
 use Rattle.ip_text.specs.Ipv6Texts.{short_ipv6_text}
 use Rattle.ip_text.specs.Spellings.{IsIpv6Text}

@@ -4,9 +4,9 @@ use Rattle.std.specs.Prelude.{◌≡◌, ◌≢◌, ℕ, ◌*◌, ◌^◌, ◌�
 use Rattle.std.specs.List.{AllByRecursion}
 use Rattle.std.specs.Fmt.{decimal}
 use Rattle.bgp_prefix.specs.Prefixes.{IpPrefix, IsIpPrefix}
-use Rattle.mrt_body.specs.declared.choice.Reach.{Reach}
-use Rattle.mrt_body.specs.declared.choice.Reach.TheVariants.{Exact, Inside, Around}
-use Rattle.mrt_body.specs.Plain.{PrefixChoice}
+use Rattle.peer_units.specs.declared.choice.Reach.{Reach}
+use Rattle.peer_units.specs.declared.choice.Reach.TheVariants.{Exact, Inside, Around}
+use Rattle.peer_units.specs.Plain.{PrefixChoice}
 use Rattle.ip_text.specs.Ipv6Texts.{short_ipv6_text}
 use Rattle.command_line.specs.Addresses.{IsAddress}
 

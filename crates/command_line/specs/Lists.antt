@@ -1,7 +1,7 @@
 -- Prefixes in a text, one a line. What is said of them takes two values of their family, as what is said of one does.
 use Rattle.std.specs.Prelude.{◌≡◌, ℕ, ◌+◌, ◌==◌, ◌||◌, Bool, true, false, not, List, [], ◌∷◌, ◌++◌, length, map, if◌then◌else◌}
 use Rattle.std.specs.List.{AllZip, filter, slice_split}
-use Rattle.mrt_body.specs.Plain.{PrefixChoice}
+use Rattle.peer_units.specs.Plain.{PrefixChoice}
 use Rattle.command_line.specs.declared.list.ListError.{ListError}
 use Rattle.command_line.specs.declared.list.ListError.TheVariants.{Line, Memory}
 use Rattle.command_line.specs.Choices.{SpellsChoice, IsNoChoice}

@@ -3,14 +3,14 @@
 ghost use Rattle.std.specs.Prelude.{◌≡◌, ℕ, ◌*◌, ◌^◌, ◌≤◌, ◌∷◌, [], ◌++◌, List, IfSome, IfNone, position, ◌==◌};
 ghost use Rattle.std.specs.Fmt.{decimal};
 ghost use Rattle.bgp_prefix.specs.Prefixes.{IpPrefix};
-ghost use Rattle.mrt_body.specs.declared.choice.Reach.{Reach};
+ghost use Rattle.peer_units.specs.declared.choice.Reach.{Reach};
 ghost use Rattle.command_line.specs.Choices.{IsPrefixWithin, SpellsPrefix, SpellsReach, SpellsChoice, IsNoChoice, EndsInNoMark, mark_of};
 ghost use Rattle.command_line.specs.Families.{SpellsIn};
 
 use crate::address::octet;
 use crate::address_text::AddressText;
 use bgp_prefix::{Family, Prefix};
-use mrt_body::{PrefixChoice, Reach};
+use peer_units::{PrefixChoice, Reach};
 
 /// Returns the value of a prefix length: 0 to the number of bits of an address, without a leading zero.
 fn read_len<F: AddressText>(text: &[u8]) -> Option<u8>

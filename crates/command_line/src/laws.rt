@@ -2,7 +2,7 @@
 
 ghost use Rattle.std.specs.Prelude.{◌≡◌, ℕ, List};
 ghost use Rattle.bgp_prefix.specs.Prefixes.{IpPrefix, IsIpPrefix};
-ghost use Rattle.mrt_body.specs.declared.choice.Reach.{Reach};
+ghost use Rattle.peer_units.specs.declared.choice.Reach.{Reach};
 ghost use Rattle.ip_text.specs.Spellings.{IsIpv6Text};
 ghost use Rattle.command_line.specs.Choices.{SpellsPrefix, SpellsReach, short_prefix_text};
 ghost use Rattle.command_line.specs.Families.{SpellsIn};

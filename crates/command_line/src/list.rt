@@ -10,7 +10,7 @@ use crate::address_text::AddressText;
 use crate::choice::{choice_in, fault_of_reach};
 use crate::names::FileName;
 use bgp_prefix::Prefix;
-use mrt_body::PrefixChoice;
+use peer_units::PrefixChoice;
 use std::alloc::{AllocError, Global};
 
 /// Why a text doesn't choose prefixes.

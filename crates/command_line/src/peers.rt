@@ -1,7 +1,7 @@
 //! Peers and shares of them as text.
 
 use crate::address::read_address;
-use mrt_body::{PeerAddr, PeerChoice, Share};
+use peer_units::{PeerAddr, PeerChoice, Share};
 use std::net::Ipv6Addr;
 
 /// Returns the value of a decimal number below 2^32, without a sign and, except for 0 itself, without a leading zero.

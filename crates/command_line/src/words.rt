@@ -17,8 +17,8 @@ use bgp_prefix::{Ipv6, Prefix};
 use bgp_update::{FamilyMark, Unicast};
 use clap::error::ErrorKind;
 use clap::{ArgMatches, Error};
-use mrt_body::{PeerChoice, PrefixChoice, RibRule, Share, StateRule};
-use rib_report::{AddressForm, AddressForms, Layout, LayoutOf, Request};
+use peer_units::{PeerChoice, PrefixChoice, RibRule, Share, StateRule};
+use report_request::{AddressForm, AddressForms, Layout, LayoutOf, Request};
 use std::alloc::{AllocError, AllocFailed, Global};
 
 static WORKERS_DEFAULT: usize = 4;

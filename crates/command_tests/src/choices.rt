@@ -3,7 +3,7 @@
 use crate::asked::asked_of;
 use bgp_prefix::{Ipv6, Prefix};
 use command_line::{AddressText, Asked, ListError, read_choice, read_list};
-use mrt_body::{PrefixChoice, Reach};
+use peer_units::{PrefixChoice, Reach};
 use std::alloc::Global;
 use std::test::Fail;
 

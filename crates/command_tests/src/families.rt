@@ -3,8 +3,8 @@
 use crate::asked::{asked_of, ipv6_job, said_of};
 use bgp_prefix::Ipv6;
 use command_line::{AddressFamily, Asked, Usage, fault_of_list, read_choice};
-use mrt_body::Reach;
-use rib_report::{AddressForm, Request};
+use peer_units::Reach;
+use report_request::{AddressForm, Request};
 use std::test::Fail;
 
 /// The address of 2001:db8::.

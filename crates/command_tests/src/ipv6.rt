@@ -5,7 +5,7 @@ use command_line::{
     AddressText, fault_of_reach, one_prefix_to_a_text, read_prefix, read_reach,
     written_prefixes_spell_themselves,
 };
-use mrt_body::Reach;
+use peer_units::Reach;
 
 /// The number of an address as text.
 fn number_in(text: &str) -> Option<u128> {

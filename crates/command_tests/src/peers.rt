@@ -1,7 +1,7 @@
 //! Rows on peers and shares as text.
 
 use command_line::{Asked, read_peer, read_share, read_words};
-use mrt_body::{PeerAddr, PeerChoice, Share};
+use peer_units::{PeerAddr, PeerChoice, Share};
 use std::test::Fail;
 
 /// The address 192.0.2.1.

@@ -5,7 +5,7 @@ use command_line::{
     Asked, FileListError, FileName, FirstBytes, Kind, Usage, fault_of_file_list, read_address,
     read_file_list, read_second,
 };
-use rib_report::Request;
+use report_request::Request;
 use std::alloc::Global;
 use std::test::Fail;
 

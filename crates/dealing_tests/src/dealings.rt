@@ -2,14 +2,15 @@
 
 use crate::plans::{PLAN, full};
 use adj_rib::RouteId;
-use bgp_prefix::{Flat, PrefixMap, Radix};
+use bgp_prefix::PrefixMap;
 use chunked_map::ChunkedMap;
 use fixtures::{THREE_PEERS, THREE_ROUTES, bytes_of, message_of};
 use lane_deal::{ByBlocks, ByList, ByTurns, Dealing, NoGate, Plan};
-use mrt_body::Selection;
 use mrt_frame::Counted;
 use mrt_replay::run;
-use rib_report::Request;
+use peer_units::Selection;
+use prefix_maps::{Flat, Radix};
+use report_request::Request;
 use std::alloc::Global;
 use std::marker::Sync;
 use std::process::Abort;

@@ -2,13 +2,13 @@
 
 use crate::plans::{PLAN, full};
 use adj_rib::RouteId;
-use bgp_prefix::Radix;
 use fixtures::{THREE_PEERS, bytes_of};
 use lane_deal::{ByTurns, Gate, Idle, Plan};
-use mrt_body::Selection;
 use mrt_frame::{Counted, ReplayError};
 use mrt_replay::{Summary, run};
-use rib_report::Request;
+use peer_units::Selection;
+use prefix_maps::Radix;
+use report_request::Request;
 use std::alloc::Global;
 use std::hint::spin_loop;
 use std::marker::Sync;

@@ -1,7 +1,7 @@
 //! The plan and the layout of the tests.
 
 use lane_deal::Plan;
-use rib_report::{AddressForm, AddressForms, Layout};
+use report_request::{AddressForm, AddressForms, Layout};
 
 /// Two workers and short rings and rounds.
 pub const PLAN: Plan = Plan {

@@ -9,9 +9,9 @@ use Rattle.mrt_frame.specs.declared.error.ReplayError.TheVariants as errors
 use Rattle.mrt_frame.specs.declared.read_state.ReadState.TheVariants as states
 use Rattle.mrt_body.specs.Units.{unit_of}
 use Rattle.std.proofs.lemmas.List.{append-nil, map-append}
-use Rattle.mrt_body.specs.declared.unit.Damage.{Damage}
-use Rattle.mrt_body.specs.Plain.{Found, Unit as ReplayUnit}
-use Rattle.mrt_body.specs.declared.unit.Found.TheVariants as found
+use Rattle.peer_units.specs.declared.unit.Damage.{Damage}
+use Rattle.peer_units.specs.Plain.{Found, Unit as ReplayUnit}
+use Rattle.peer_units.specs.declared.unit.Found.TheVariants as found
 use Rattle.mrt_body.specs.ToCome.{UnitsState, GivesPending, KeepsPlan, GivesAllBefore, as_found, found_to_come, units_left}
 use Rattle.mrt_body.proofs.FilesLaws.{gives_found}
 use Rattle.mrt_body.specs.Readings.{Gives}

@@ -1,7 +1,7 @@
 -- Units that were decoded, one by one.
 use Rattle.std.proofs.Common.{◌≡◌, ℕ, ◌<◌, List, [], ◌∷◌, ◌++◌, length, refl, sym, ap, ◌∙◌, arith, slice_index_or}
 use Rattle.std.proofs.lemmas.List.{get_or-map, length-map, map-append}
-use Rattle.mrt_body.specs.Events.{event_in}
+use Rattle.peer_units.specs.Events.{event_in}
 use Rattle.lane_deal.specs.Plain.{PeerUnit}
 use Rattle.lane_deal.specs.DecodedUnitLists.{AreDecoded, BatchState, IsDecodedAt, head_of, no_batch}
 

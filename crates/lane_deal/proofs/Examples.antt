@@ -1,10 +1,10 @@
 -- A schedule of events, by computation.
 use Rattle.std.proofs.Common.{◌≡◌, ℕ, ◌%◌, None, List, [], ◌∷◌, refl}
-use Rattle.mrt_body.specs.declared.state_rule.StateRule.TheVariants.{Recorded}
-use Rattle.mrt_body.specs.declared.unit.PeerAddr.TheVariants.{V4}
-use Rattle.mrt_body.specs.declared.unit.PeerKey.{PeerKey}
-use Rattle.mrt_body.specs.declared.unit.Payload.TheVariants.{State}
-use Rattle.mrt_body.specs.Plain.{Unit as ReplayUnit}
+use Rattle.peer_units.specs.declared.state_rule.StateRule.TheVariants.{Recorded}
+use Rattle.peer_units.specs.declared.unit.PeerAddr.TheVariants.{V4}
+use Rattle.peer_units.specs.declared.unit.PeerKey.{PeerKey}
+use Rattle.peer_units.specs.declared.unit.Payload.TheVariants.{State}
+use Rattle.peer_units.specs.Plain.{Unit as ReplayUnit}
 use Rattle.peer_tables.specs.Peers.{peers_of}
 use Rattle.lane_deal.specs.declared.turn.Turn.TheVariants.{Deal, Take}
 use Rattle.lane_deal.specs.Lanes.{lane_units}

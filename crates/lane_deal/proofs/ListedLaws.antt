@@ -8,11 +8,11 @@ use Rattle.bgp_prefix.specs.Prefixes.{IpPrefix}
 use Rattle.bgp_update.specs.Families.{FamilyOf}
 use Rattle.bgp_update.specs.Decoded.{IsWithin, span_of}
 use Rattle.bgp_update.specs.declared.decoded.Span.{Span}
-use Rattle.mrt_body.specs.declared.unit.Payload.{Payload as PayloadOf}
-use Rattle.mrt_body.specs.declared.unit.Payload.TheVariants.{State, Message, Entry, Clear}
-use Rattle.mrt_body.specs.HeldBytes.{BytesMeet, payload_of_held}
-use Rattle.mrt_body.specs.Units.{payload_bytes}
-use Rattle.mrt_body.specs.Plain.{Payload}
+use Rattle.peer_units.specs.declared.unit.Payload.{Payload as PayloadOf}
+use Rattle.peer_units.specs.declared.unit.Payload.TheVariants.{State, Message, Entry, Clear}
+use Rattle.peer_units.specs.HeldBytes.{BytesMeet, payload_of_held}
+use Rattle.peer_units.specs.Payloads.{payload_bytes}
+use Rattle.peer_units.specs.Plain.{Payload}
 use Rattle.lane_deal.specs.declared.listed_unit.ListedRecord.{ListedRecord}
 use Rattle.lane_deal.specs.Plain.{ListedUnit, UnitList, PeerUnit}
 use Rattle.lane_deal.specs.declared.listed_unit.NumberedPeer.{NumberedPeer}

@@ -4,8 +4,8 @@ use Rattle.std.proofs.lemmas.List.{append-nil}
 use Rattle.std.specs.List.{list_any, position_or_len, enumerate_from, range_with_len}
 use Rattle.std.specs.List.Sorted.{IsStrictlyIncreasing}
 use Rattle.std.proofs.lemmas.List.FromFn.{length-range_with_len, get_or-range_with_len}
-use Rattle.mrt_body.specs.declared.unit.PeerKey.{PeerKey}
-use Rattle.mrt_body.specs.Plain.{Unit as ReplayUnit}
+use Rattle.peer_units.specs.declared.unit.PeerKey.{PeerKey}
+use Rattle.peer_units.specs.Plain.{Unit as ReplayUnit}
 use Rattle.peer_tables.specs.Peers.{peer_eq, peers_of}
 use Rattle.lane_deal.specs.Lanes.{number_of_peer}
 use Rattle.peer_tables.proofs.PeerPositions.{other_peer, place_behind}

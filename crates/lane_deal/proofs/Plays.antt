@@ -7,8 +7,8 @@ use Rattle.std.proofs.lemmas.List.Sums.{length-filter}
 use Rattle.lane_deal.specs.UnitRings.{known_free, ring_capacity}
 use Rattle.mrt_frame.specs.declared.error.ReplayError.{ReplayError}
 use Rattle.mrt_frame.specs.declared.error.ReplayError.TheVariants.{Read, Write, Memory, Records, Spent as SpentBefore}
-use Rattle.mrt_body.specs.declared.unit.Damage.{Damage}
-use Rattle.mrt_body.specs.Plain.{Found, Unit as ReplayUnit}
+use Rattle.peer_units.specs.declared.unit.Damage.{Damage}
+use Rattle.peer_units.specs.Plain.{Found, Unit as ReplayUnit}
 use Rattle.mrt_body.specs.Units.{unit_of, damage_of}
 use Rattle.mrt_body.specs.ToCome.{UnitsState}
 use Rattle.peer_tables.specs.Peers.{peers_of}

@@ -6,7 +6,7 @@ use Rattle.std.proofs.Math.Nat.{add-mul, zero-mul, one-mul}
 use Rattle.std.proofs.lemmas.Nat.{le-div}
 use Rattle.std.proofs.lemmas.List.Sums.{sum_by-cons, length-filter, count_by-le-length}
 use Rattle.std.proofs.lemmas.List.Sorted.{length_permutation}
-use Rattle.mrt_body.specs.Plain.{Found, Unit as ReplayUnit}
+use Rattle.peer_units.specs.Plain.{Found, Unit as ReplayUnit}
 use Rattle.mrt_body.specs.Units.{unit_of}
 use Rattle.peer_tables.specs.Peers.{peer_eq}
 use Rattle.peer_tables.proofs.PeerPositions.{some_is}

@@ -4,7 +4,7 @@ use Rattle.std.proofs.lemmas.List.{append-nil}
 use Rattle.std.specs.List.{filter, fold}
 use Rattle.std.proofs.lemmas.Bool.{eqb-true}
 use Rattle.std.proofs.lemmas.List.Elements.{filter-append}
-use Rattle.mrt_body.specs.Plain.{Unit as ReplayUnit}
+use Rattle.peer_units.specs.Plain.{Unit as ReplayUnit}
 use Rattle.lane_deal.specs.declared.turn.Turn.{Turn}
 use Rattle.lane_deal.specs.declared.turn.Turn.TheVariants.{Deal, Take}
 use Rattle.lane_deal.specs.Lanes.{lane_of_unit, lane_units}

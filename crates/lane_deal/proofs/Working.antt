@@ -1,7 +1,7 @@
 -- What a worker took, step by step.
 use Rattle.std.proofs.Common.{◌≡◌, ◌+◌, ◌-◌, ◌^◌, ◌<◌, min, List, [], ◌∷◌, ◌++◌, length, refl, sym, ap, ◌∙◌, subst, append_assoc, arith, length-append}
 use Rattle.std.proofs.lemmas.List.{append-nil}
-use Rattle.mrt_body.specs.Events.{event_in}
+use Rattle.peer_units.specs.Events.{event_in}
 use Rattle.rtrb.specs.Ring.{SameConsumer, received as received_lists}
 use Rattle.lane_deal.specs.Plain.{UnitList, PeerUnit, Worker}
 use Rattle.lane_deal.specs.UnitLists.{IsUnitList, units_of, units_of_lists}

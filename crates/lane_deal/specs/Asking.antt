@@ -6,9 +6,9 @@ use Rattle.mrt_frame.specs.declared.error.ReplayError.{ReplayError}
 use Rattle.mrt_frame.specs.declared.error.ReplayError.TheVariants as errors
 use Rattle.mrt_frame.specs.declared.read_state.ReadState.TheVariants as states
 use Rattle.mrt_body.specs.Units.{unit_of}
-use Rattle.mrt_body.specs.declared.unit.Damage.{Damage}
-use Rattle.mrt_body.specs.Plain.{Found}
-use Rattle.mrt_body.specs.declared.unit.Found.TheVariants as found
+use Rattle.peer_units.specs.declared.unit.Damage.{Damage}
+use Rattle.peer_units.specs.Plain.{Found}
+use Rattle.peer_units.specs.declared.unit.Found.TheVariants as found
 use Rattle.mrt_body.specs.ToCome.{UnitsState, TakesFound, KeepsPlan, HasMoreRecords, FailsBehind, found_to_come, units_left}
 
 abbrev pub as_refused : List Damage → List Found

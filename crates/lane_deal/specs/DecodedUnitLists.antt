@@ -1,8 +1,8 @@
 -- Units that were decoded and wait to be taken.
 use Rattle.std.specs.Prelude.{◌≡◌, ℕ, List, [], map, Result, slice_index_or}
 use Rattle.mrt_frame.specs.declared.fault.Fault.{Fault}
-use Rattle.mrt_body.specs.Events.{event_in}
-use Rattle.mrt_body.specs.Plain.{Event}
+use Rattle.peer_units.specs.Events.{event_in}
+use Rattle.peer_units.specs.Plain.{Event}
 use Rattle.lane_deal.specs.declared.unit_head.UnitHead.{UnitHead}
 use Rattle.lane_deal.specs.Plain.{PeerUnit}
 

@@ -1,8 +1,8 @@
 -- The numbers of peers, and the lanes that a dealing gives their units to.
 use Rattle.std.specs.Prelude.{ℕ, List, map, ◌==◌}
 use Rattle.std.specs.List.{filter, position_or_len}
-use Rattle.mrt_body.specs.Plain.{Unit as ReplayUnit}
-use Rattle.mrt_body.specs.declared.unit.PeerKey.{PeerKey}
+use Rattle.peer_units.specs.Plain.{Unit as ReplayUnit}
+use Rattle.peer_units.specs.declared.unit.PeerKey.{PeerKey}
 use Rattle.adj_rib.specs.Sessions.{session_of}
 use Rattle.peer_tables.specs.Peers.{peer_eq, peers_of, units_of_peer}
 use Rattle.peer_tables.specs.Tables.{Seat}

@@ -1,9 +1,9 @@
 -- The units of a list, whose bytes stand in one block, and whose records and peers are listed once.
 use Rattle.std.specs.Prelude.{◌≡◌, ℕ, ◌≤◌, ◌<◌, Option, List, length, slice_index_or}
 use Rattle.bgp_update.specs.Decoded.{IsWithin, span_of}
-use Rattle.mrt_body.specs.declared.unit.Payload.{Payload}
-use Rattle.mrt_body.specs.declared.unit.PeerAddr.TheVariants.{V4}
-use Rattle.mrt_body.specs.HeldBytes.{BytesMeet, payload_of_held}
+use Rattle.peer_units.specs.declared.unit.Payload.{Payload}
+use Rattle.peer_units.specs.declared.unit.PeerAddr.TheVariants.{V4}
+use Rattle.peer_units.specs.HeldBytes.{BytesMeet, payload_of_held}
 use Rattle.lane_deal.specs.declared.peer_unit.PeerUnit.{PeerUnit}
 use Rattle.lane_deal.specs.declared.listed_unit.ListedRecord.{ListedRecord}
 use Rattle.lane_deal.specs.declared.listed_unit.NumberedPeer.{NumberedPeer}

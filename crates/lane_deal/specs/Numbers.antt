@@ -1,7 +1,7 @@
 -- Units with the numbers that their peers are given as the units come.
 use Rattle.std.specs.Prelude.{List, map}
-use Rattle.mrt_body.specs.declared.unit.PeerKey.{PeerKey}
-use Rattle.mrt_body.specs.Plain.{Unit as ReplayUnit}
+use Rattle.peer_units.specs.declared.unit.PeerKey.{PeerKey}
+use Rattle.peer_units.specs.Plain.{Unit as ReplayUnit}
 use Rattle.peer_tables.specs.Numbers.{number_in}
 use Rattle.lane_deal.specs.Plain.{PeerUnit}
 

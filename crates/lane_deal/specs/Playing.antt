@@ -2,7 +2,7 @@
 use Rattle.std.specs.Prelude.{◌≡◌, ℕ, List, ◌++◌, map, drop, Option, Some, None, Result, Ok, IfOk, OnOk, OnErr}
 use Rattle.std.specs.List.{filter_map}
 use Rattle.mrt_frame.specs.declared.error.ReplayError.{ReplayError}
-use Rattle.mrt_body.specs.Plain.{Found}
+use Rattle.peer_units.specs.Plain.{Found}
 use Rattle.mrt_body.specs.Units.{unit_of}
 use Rattle.mrt_body.specs.ToCome.{UnitsState, found_to_come}
 use Rattle.lane_deal.specs.declared.plan.Plan.{Plan}

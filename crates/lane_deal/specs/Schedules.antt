@@ -1,7 +1,7 @@
 -- The lanes as a machine of two events: a unit is dealt, and a unit is taken.
 use Rattle.std.specs.Prelude.{◌≡◌, ℕ, List, [], ◌∷◌, ◌++◌, ◌==◌, if◌then◌else◌}
 use Rattle.std.specs.List.{fold}
-use Rattle.mrt_body.specs.Plain.{Unit as ReplayUnit}
+use Rattle.peer_units.specs.Plain.{Unit as ReplayUnit}
 use Rattle.lane_deal.specs.declared.turn.Turn.{Turn}
 use Rattle.lane_deal.specs.declared.turn.Turn.TheVariants.{Deal, Take}
 use Rattle.lane_deal.specs.Lanes.{lane_of_unit, lane_units}

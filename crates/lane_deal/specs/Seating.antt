@@ -1,8 +1,8 @@
 -- What the sessions of a lane hold.
 use Rattle.std.specs.Prelude.{◌≡◌, ℕ, ◌<◌, ◌⊎◌, true, false, Option, Some, List, [], ◌∷◌, ◌++◌, map, length, slice_get, slice_index_or, slice_set, ◌==◌}
 use Rattle.std.specs.List.{AllByRecursion, list_any}
-use Rattle.mrt_body.specs.declared.unit.PeerKey.{PeerKey}
-use Rattle.mrt_body.specs.Plain.{Unit as ReplayUnit}
+use Rattle.peer_units.specs.declared.unit.PeerKey.{PeerKey}
+use Rattle.peer_units.specs.Plain.{Unit as ReplayUnit}
 use Rattle.adj_rib.specs.Sessions.{session_of}
 use Rattle.peer_tables.specs.Peers.{peer_eq, peers_of, units_of_peer}
 use Rattle.peer_tables.specs.Tables.{Seat}

@@ -1,7 +1,7 @@
 -- What is to be dealt.
 use Rattle.std.specs.Prelude.{List, ◌++◌, map, Option, option_to_list}
-use Rattle.mrt_body.specs.Plain.{Found, Unit as ReplayUnit}
-use Rattle.mrt_body.specs.declared.unit.Found.TheVariants as found
+use Rattle.peer_units.specs.Plain.{Found, Unit as ReplayUnit}
+use Rattle.peer_units.specs.declared.unit.Found.TheVariants as found
 
 -- what is to be dealt and listed: the blocked unit, if there is one, and then what the files still give
 abbrev pub to_deal : Option ReplayUnit → List Found → List Found

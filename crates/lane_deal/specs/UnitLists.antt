@@ -1,7 +1,7 @@
 -- Lists of units, and how many units wait in a ring of lists.
 use Rattle.std.specs.Prelude.{◌≡◌, ℕ, ◌-◌, ◌<◌, List, length, map, drop}
 use Rattle.std.specs.List.{AllByRecursion, flat_map, sum_by}
-use Rattle.mrt_body.specs.Units.{IsSmallUnit}
+use Rattle.peer_units.specs.Payloads.{IsSmallUnit}
 use Rattle.lane_deal.specs.declared.peer_unit.PeerUnit.{PeerUnit}
 use Rattle.lane_deal.specs.declared.unit_list.UnitList.{UnitList}
 use Rattle.lane_deal.specs.ListedUnits.{unit_in}

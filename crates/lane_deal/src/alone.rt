@@ -8,7 +8,7 @@ use crate::sessions::Sessions;
 use crate::worker::WorkerOf;
 use bgp_prefix::Memory;
 use bgp_update::Unicast;
-use mrt_body::UnitRef;
+use peer_units::UnitRef;
 use std::alloc::Global;
 use std::sync::atomic::AtomicBool;
 

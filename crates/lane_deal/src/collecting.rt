@@ -13,8 +13,8 @@ use crate::worker::WorkerOf;
 use adj_rib::RouteId;
 use bgp_prefix::{Memory, PrefixMap, Sequence};
 use bgp_update::Unicast;
-use mrt_body::Damage;
 use peer_tables::{Gathered, Seated, Tables, collect};
+use peer_units::Damage;
 use std::alloc::Global;
 
 /// The worker of a lane.

@@ -2,7 +2,7 @@
 
 ghost use Rattle.std.specs.Prelude.{◌≡◌, ℕ, ◌+◌, ◌-◌, ◌^◌, ◌<◌, ◌≤◌, min, [], length, map, IfOk, None};
 ghost use Rattle.std.specs.Option.{ForSome};
-ghost use Rattle.mrt_body.specs.Units.{IsSmallUnit};
+ghost use Rattle.peer_units.specs.Payloads.{IsSmallUnit};
 ghost use Rattle.lane_deal.specs.Asking.{Lists, ReadsOn};
 
 use crate::dealing::Dealing;
@@ -13,9 +13,10 @@ use crate::receives::Receives;
 use crate::step::Step;
 use bgp_prefix::{Memory, Prefix};
 use bgp_update::{FamilyMark, Unicast};
-use mrt_body::{Damage, Lent, LentUnits, PayloadBytes, PeerKey, Unit, UnitRef, Units};
+use mrt_body::{Lent, LentUnits, Units};
 use mrt_frame::{ReplayError, Source};
 use peer_tables::Peers;
+use peer_units::{Damage, PayloadBytes, PeerKey, Unit, UnitRef};
 use std::alloc::Global;
 use std::sync::atomic::AtomicBool;
 
@@ -57,7 +58,7 @@ fn list_refusals<F: Unicast, R: Source>(
 impl<F: Unicast, D: Dealing> Dealer<D, Prefix<F>, FamilyMark<F>> {
     ghost use Rattle.lane_deal.specs.DealerSteps.{DealsBlocked, DealsFront, DealsTo, DealsUnit};
     ghost use Rattle.mrt_body.specs.Pending.{units_lent};
-    ghost use Rattle.mrt_body.specs.Plain.{Unit as ReplayUnit};
+    ghost use Rattle.peer_units.specs.Plain.{Unit as ReplayUnit};
     ghost use Rattle.mrt_body.specs.declared.lent_units.Lent.TheVariants as Lent;
     ghost use Rattle.lane_deal.specs.Results.{IfAnswered};
     ghost use Rattle.peer_tables.specs.Numbers.{NumbersPeer};

@@ -3,7 +3,7 @@
 use crate::unit_head::UnitHead;
 use bgp_prefix::{Memory, Prefix};
 use bgp_update::{RouteSpan, Unicast};
-use mrt_body::{DecodedEvents, EventRef, UnitRef};
+use peer_units::{DecodedEvents, EventRef, UnitRef};
 use std::alloc::Global;
 use std::marker::Model;
 
@@ -27,8 +27,8 @@ impl<F: Unicast> Model for DecodedUnits<F> {
 
 impl<F: Unicast> DecodedUnits<F> {
     ghost use Rattle.std.specs.Prelude.{◌≡◌, ◌<◌, [], ◌∷◌, ◌++◌, OnOk, length, slice_index_or};
-    ghost use Rattle.mrt_body.specs.DecodedEvents.{event_of};
-    ghost use Rattle.mrt_body.specs.Events.{event_in};
+    ghost use Rattle.peer_units.specs.DecodedEvents.{event_of};
+    ghost use Rattle.peer_units.specs.Events.{event_in};
     ghost use Rattle.lane_deal.specs.DecodedUnitLists.{no_batch};
 
     /// Returns no units. Allocates nothing.

@@ -1,6 +1,6 @@
 //! Gates, which are notified of a replay's progress, and how its threads wait.
 
-use mrt_body::Damage;
+use peer_units::Damage;
 use std::thread::yield_now;
 
 /// How a thread of a round waits that finds nothing to do.

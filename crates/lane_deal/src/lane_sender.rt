@@ -1,5 +1,5 @@
 ghost use Rattle.std.specs.Prelude.{◌≡◌, ◌+◌, ◌-◌, ◌^◌, ◌<◌, min, true, false, [], ◌∷◌, OnOk};
-ghost use Rattle.mrt_body.specs.Units.{IsSmallUnit};
+ghost use Rattle.peer_units.specs.Payloads.{IsSmallUnit};
 
 use crate::gate::Gate;
 use crate::receives::Receives;
@@ -7,7 +7,7 @@ use crate::unit_list::UnitList;
 use crate::unit_producer::UnitProducer;
 use bgp_prefix::{Memory, Prefix};
 use bgp_update::{FamilyMark, Unicast};
-use mrt_body::UnitRef;
+use peer_units::UnitRef;
 use rtrb::Consumer;
 use std::alloc::Global;
 use std::sync::atomic::{AtomicBool, Ordering};

@@ -3,8 +3,8 @@
 ghost use Rattle.std.specs.Prelude.{◌≡◌, ◌≢◌, ◌<◌, ◌≤◌, ◌+◌, ◌*◌, ◌/◌, ◌++◌, ℕ, List, [], length, map, IsPermutation};
 ghost use Rattle.std.specs.List.{AllByRecursion, flat_map, range_with_len};
 ghost use Rattle.std.specs.List.Sorted.{IsStrictlyIncreasing};
-ghost use Rattle.mrt_body.specs.declared.unit.Damage.{Damage};
-ghost use Rattle.mrt_body.specs.Plain.{Found, Unit as ReplayUnit};
+ghost use Rattle.peer_units.specs.declared.unit.Damage.{Damage};
+ghost use Rattle.peer_units.specs.Plain.{Found, Unit as ReplayUnit};
 ghost use Rattle.peer_tables.specs.Tables.{tables_of};
 ghost use Rattle.lane_deal.specs.declared.plan.Plan.{Plan};
 ghost use Rattle.lane_deal.specs.declared.step.Step.TheVariants.{End};

@@ -2,7 +2,7 @@
 
 ghost use Rattle.std.specs.Prelude.{◌≡◌, true};
 
-use mrt_body::{PeerAddr, PeerKey};
+use peer_units::{PeerAddr, PeerKey};
 use std::marker::Model;
 
 /// By this number an IPv6 address is divided into its halves.
@@ -23,7 +23,7 @@ pub struct ListedPeer {
 }
 
 impl Model for ListedPeer {
-    ghost use Rattle.mrt_body.specs.declared.unit.PeerKey.{PeerKey as Peer};
+    ghost use Rattle.peer_units.specs.declared.unit.PeerKey.{PeerKey as Peer};
     ghost use Rattle.lane_deal.specs.ListedPeers.{listed_addr};
 
     ghost Value = { Peer };

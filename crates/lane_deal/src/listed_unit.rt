@@ -7,7 +7,7 @@ ghost use Rattle.lane_deal.specs.ListedUnits.{AreKept, IsListedAt};
 use crate::listed_peer::ListedPeer;
 use bgp_prefix::{Memory, Prefix};
 use bgp_update::{FamilyMark, Span};
-use mrt_body::{Payload, Place};
+use peer_units::{Payload, Place};
 
 /// Where the record of a unit is, and the unit's time.
 #[derive(Drop)]

@@ -3,7 +3,7 @@ ghost use Rattle.lane_deal.specs.UnitLists.{IsUnitList};
 use crate::unit_list::UnitList;
 use bgp_prefix::Prefix;
 use bgp_update::FamilyMark;
-use mrt_body::{BytesRef, PayloadBytes, Unit};
+use peer_units::{BytesRef, PayloadBytes, Unit};
 use rtrb::Protocol;
 
 /// A unit, with its peer's number.

@@ -3,14 +3,14 @@
 use crate::gate::Gate;
 use bgp_prefix::Memory;
 use bgp_update::Unicast;
-use mrt_body::UnitRef;
+use peer_units::UnitRef;
 use std::alloc::Global;
 use std::sync::atomic::AtomicBool;
 
 /// What receives units as they are dealt: the rings of the lanes, or a single worker.
 pub trait Receives {
     ghost use Rattle.std.specs.Prelude.{◌≡◌, ◌≤◌, ◌<◌, ◌+◌, ℕ, List, [], ◌∷◌, ◌++◌, true, false, OnOk, length};
-    ghost use Rattle.mrt_body.specs.Units.{IsSmallUnit};
+    ghost use Rattle.peer_units.specs.Payloads.{IsSmallUnit};
     ghost use Rattle.lane_deal.specs.LaneSenders.{in_lane};
     ghost use Rattle.lane_deal.specs.Plain.{PeerUnit};
 

@@ -213,8 +213,8 @@ impl<F: Unicast + Send, M: PrefixMap<RouteId, Addr = F> + Send + Drop, D: Dealin
 
 impl<F: Unicast, M: PrefixMap<RouteId, Addr = F> + Drop, D: Dealing + Drop> Replayer<M, D> {
     ghost use Rattle.std.specs.Prelude.{◌≡◌, ◌≢◌, List, IfOk, IfErr};
-    ghost use Rattle.mrt_body.specs.declared.unit.Damage.{Damage};
-    ghost use Rattle.mrt_body.specs.Plain.{Unit as ReplayUnit};
+    ghost use Rattle.peer_units.specs.declared.unit.Damage.{Damage};
+    ghost use Rattle.peer_units.specs.Plain.{Unit as ReplayUnit};
     ghost use Rattle.peer_tables.specs.Tables.{tables_of};
     ghost use Rattle.mrt_frame.specs.declared.read_state.ReadState.TheVariants.{Spent};
     ghost use Rattle.lane_deal.specs.Playing.{shown};

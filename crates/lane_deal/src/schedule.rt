@@ -1,7 +1,7 @@
 //! The lanes on one thread, by a list of events.
 
 ghost use Rattle.std.specs.Prelude.{◌≡◌, ℕ, ◌<◌, ◌++◌, ◌∷◌, [], List, length, take, drop, IfOk, OnOk};
-ghost use Rattle.mrt_body.specs.Plain.{Unit as ReplayUnit};
+ghost use Rattle.peer_units.specs.Plain.{Unit as ReplayUnit};
 ghost use Rattle.peer_tables.specs.Peers.{peers_of};
 ghost use Rattle.lane_deal.specs.Lanes.{lane_of_unit};
 ghost use Rattle.lane_deal.specs.Numbers.{with_numbers};
@@ -19,8 +19,8 @@ use crate::turn::Turn;
 use adj_rib::RouteId;
 use bgp_prefix::{Memory, PrefixMap, Sequence};
 use bgp_update::Unicast;
-use mrt_body::UnitOf;
 use peer_tables::{Peers, Seated};
+use peer_units::UnitOf;
 use std::alloc::Global;
 use std::collections::VecDeque;
 

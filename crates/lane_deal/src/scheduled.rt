@@ -32,7 +32,7 @@ where
     M::Addr: Unicast,
 {
     ghost use Rattle.std.specs.Prelude.{◌≡◌, ℕ, ◌-◌, ◌^◌, List, length, min};
-    ghost use Rattle.mrt_body.specs.Plain.{Unit as ReplayUnit};
+    ghost use Rattle.peer_units.specs.Plain.{Unit as ReplayUnit};
     ghost use Rattle.lane_deal.specs.Schedules.{LanesState};
     ghost use Rattle.lane_deal.specs.ShownLanes.{Shows};
 
@@ -67,7 +67,7 @@ where
 
 impl<F: Unicast, M: PrefixMap<RouteId, Addr = F> + Drop> Lanes<M> {
     ghost use Rattle.std.specs.Prelude.{◌≡◌, ℕ, List, [], length, IfOk, IfErr};
-    ghost use Rattle.mrt_body.specs.Plain.{Unit as ReplayUnit};
+    ghost use Rattle.peer_units.specs.Plain.{Unit as ReplayUnit};
     ghost use Rattle.peer_tables.specs.Tables.{tables_of};
     ghost use Rattle.lane_deal.specs.Schedules.{LanesState};
     ghost use Rattle.lane_deal.specs.ShownLanes.{Shows, ShowsSame};

@@ -2,8 +2,8 @@
 
 ghost use Rattle.std.specs.Prelude.{◌≡◌, ◌<◌, ℕ, Some, false, length, map, slice_get, slice_index_or, IfOk, IfSome, OnOk, IsTrue, MatchOption, true, ◌==◌};
 ghost use Rattle.std.specs.List.{list_any};
-ghost use Rattle.mrt_body.specs.DecodedEvents.{Means, event_of};
-ghost use Rattle.mrt_body.specs.Plain.{Unit as ReplayUnit};
+ghost use Rattle.peer_units.specs.DecodedEvents.{Means, event_of};
+ghost use Rattle.peer_units.specs.Plain.{Unit as ReplayUnit};
 ghost use Rattle.peer_tables.specs.Seats.{seat_of};
 ghost use Rattle.lane_deal.specs.Seating.{AreIndexed, SeatFor, TakenAt};
 
@@ -13,8 +13,8 @@ use crate::unit_head::UnitHead;
 use adj_rib::{RouteId, Session};
 use bgp_prefix::{Memory, Prefix, PrefixMap};
 use bgp_update::Unicast;
-use mrt_body::{EventRef, PeerKey};
 use peer_tables::Seated;
+use peer_units::{EventRef, PeerKey};
 use std::alloc::Global;
 use std::mem;
 

@@ -1,4 +1,4 @@
-use mrt_body::{PeerKey, Place};
+use peer_units::{PeerKey, Place};
 
 /// All of a unit but its payload: whose it is, with the number of that peer, where its record is, and its time in
 /// microseconds since 1970 UTC.

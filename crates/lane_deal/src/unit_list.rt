@@ -5,7 +5,7 @@ ghost use Rattle.std.proofs.Props.{props};
 ghost use Rattle.lane_deal.specs.PlacedProps.{meet_prop};
 ghost use Rattle.std.specs.List.{AllByRecursion};
 ghost use Rattle.bgp_update.specs.Decoded.{IsWithin, span_of};
-ghost use Rattle.mrt_body.specs.HeldBytes.{BytesMeet, payload_of_held};
+ghost use Rattle.peer_units.specs.HeldBytes.{BytesMeet, payload_of_held};
 ghost use Rattle.lane_deal.specs.ListedUnits.{IsListed};
 
 use crate::listed_peer::ListedPeer;
@@ -13,7 +13,7 @@ use crate::listed_unit::{ListedRecord, ListedUnit, NumberedPeer, index_of_peer, 
 use crate::peer_unit::{PeerUnit, PeerUnitRef};
 use bgp_prefix::{Memory, Prefix};
 use bgp_update::{FamilyMark, Span, Unicast};
-use mrt_body::{BytesRef, Payload, PayloadRef, Place, Unit, UnitRef};
+use peer_units::{BytesRef, Payload, PayloadRef, Place, Unit, UnitRef};
 use std::alloc::Global;
 
 /// Units that were dealt to one lane, in order. Their records, their peers and their bytes are in blocks of memory of

@@ -11,7 +11,7 @@ use crate::peer_unit::NonEmptyLists;
 use crate::unit_list::{UnitList, UnitListOf};
 use bgp_prefix::{Memory, Prefix};
 use bgp_update::{FamilyMark, Unicast};
-use mrt_body::UnitRef;
+use peer_units::UnitRef;
 use rtrb::{Consumer, Producer, RingBuffer};
 use std::alloc::Global;
 use std::collections::VecDeque;
@@ -81,7 +81,7 @@ fn take_sum(lengths: &mut VecDeque<usize>, count: usize) -> usize
 impl<F: Unicast> UnitProducer<Prefix<F>, FamilyMark<F>> {
     ghost use Rattle.std.specs.Prelude.{◌≡◌, ◌+◌, ◌<◌, ◌≤◌, [], ◌∷◌, ◌++◌, length, IfOk, OnOk, IsTrue, ◌↔◌, false};
     ghost use Rattle.rtrb.specs.Ring.{ConsumerLooked};
-    ghost use Rattle.mrt_body.specs.Units.{IsSmallUnit};
+    ghost use Rattle.peer_units.specs.Payloads.{IsSmallUnit};
     ghost use Rattle.lane_deal.specs.UnitLists.{IsUnitList};
     ghost use Rattle.lane_deal.specs.UnitRings.{sent, known_free, ring_capacity, received, known_items, IsPair, SameProducer, ProducerLooked};
 

@@ -2,10 +2,10 @@
 
 use crate::playing::{PLAN, Play};
 use adj_rib::RouteId;
-use bgp_prefix::Radix;
 use fixtures::{Dripping, THREE_PEERS, bytes_of};
 use lane_deal::Plan;
 use mrt_frame::Counted;
+use prefix_maps::Radix;
 use std::alloc::Global;
 use std::io::ErrorKind;
 use std::marker::Sync;

@@ -4,11 +4,12 @@
 
 use crate::playing::{PLAN, Play};
 use adj_rib::RouteId;
-use bgp_prefix::{Memory, PrefixMap, Radix};
+use bgp_prefix::{Memory, PrefixMap};
 use chunked_map::ChunkedMap;
 use fixtures::{THREE_PEERS, bytes_of};
 use lane_deal::Plan;
 use mrt_frame::{Counted, ReplayError};
+use prefix_maps::Radix;
 use std::alloc::Global;
 use std::marker::Sync;
 use std::process::Abort;

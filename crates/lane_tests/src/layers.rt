@@ -3,10 +3,12 @@
 ghost use Rattle.std.specs.Prelude.{◌≡◌, [], ◌∷◌, IfOk, map};
 
 use adj_rib::{RouteId, Session};
-use bgp_prefix::{Radix, Sequence};
+use bgp_prefix::Sequence;
 use fixtures::bytes_of;
-use mrt_body::{Found, PeerAddr, PeerKey, Selection, Unit, Units};
+use mrt_body::Units;
 use mrt_frame::{Counted, ReplayError};
+use peer_units::{Found, PeerAddr, PeerKey, Selection, Unit};
+use prefix_maps::Radix;
 use rib_report::{Gathered, Seated, Tables, collect, table_rows};
 use std::alloc::Global;
 use std::process::Abort;

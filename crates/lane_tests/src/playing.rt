@@ -10,8 +10,9 @@ ghost use Rattle.mrt_frame.specs.declared.read_state.ReadState.TheVariants.{Spen
 use adj_rib::RouteId;
 use bgp_prefix::{Memory, PrefixMap};
 use lane_deal::{ByTurns, Dealing, NoGate, Plan, Replayer, Step};
-use mrt_body::{Selection, Units};
+use mrt_body::Units;
 use mrt_frame::{Counted, ReplayError, Source};
+use peer_units::Selection;
 use rib_report::{AddressForm, AddressForms, Tables, churn, table_rows, write_churn, write_rows};
 use std::alloc::Global;
 use std::marker::Sync;

@@ -3,8 +3,8 @@
 
 use crate::playing::rows::play_rows;
 use adj_rib::RouteId;
-use bgp_prefix::{Flat, Radix};
 use chunked_map::ChunkedMap;
+use prefix_maps::{Flat, Radix};
 use std::alloc::Global;
 use std::marker::Sync;
 use std::process::Abort;

@@ -2,11 +2,12 @@
 
 use crate::layers::found_in;
 use adj_rib::RouteId;
-use bgp_prefix::{Flat, Memory, PrefixMap, Radix};
+use bgp_prefix::{Memory, PrefixMap};
 use chunked_map::ChunkedMap;
 use fixtures::THREE_PEERS;
 use lane_deal::{ByTurns, Lanes, Turn, run_schedule};
-use mrt_body::{Found, PeerAddr, Unit};
+use peer_units::{Found, PeerAddr, Unit};
+use prefix_maps::{Flat, Radix};
 use rib_report::{Tables, table_rows};
 use std::alloc::Global;
 use std::process::Abort;

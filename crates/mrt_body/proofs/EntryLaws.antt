@@ -16,8 +16,8 @@ use Rattle.bgp_update.specs.declared.attr_error.AttrError.TheVariants as errors
 use Rattle.bgp_update.specs.Keys.{octets_at, prefix_of}
 use Rattle.bgp_update.specs.Families.{FamilyOf}
 use Rattle.bgp_update.proofs.Readings.{mapped_err}
-use Rattle.mrt_body.specs.declared.unit.PeerKey.{PeerKey}
-use Rattle.mrt_body.specs.Plain.{Unit as ReplayUnit}
+use Rattle.peer_units.specs.declared.unit.PeerKey.{PeerKey}
+use Rattle.peer_units.specs.Plain.{Unit as ReplayUnit}
 use Rattle.mrt_body.specs.declared.record_place.RecordAt.{RecordAt}
 use Rattle.mrt_body.specs.declared.rib.ListedEntry.{ListedEntry}
 use Rattle.mrt_body.specs.Pending.{RibRecord}

@@ -19,20 +19,20 @@ use Rattle.bgp_update.specs.Segments.{path_in, segment_at, segment_field_at}
 use Rattle.bgp_update.specs.Multiprotocol.{next_hop_of, hop_at, entry_hop_in, reached_keys, unreached_keys}
 use Rattle.bgp_update.specs.Attributes.{attribute_at, attributes_in, value_fault, route_from, entry_route, route_in}
 use Rattle.bgp_update.specs.Updates.{fields_in, said_update, update_in}
-use Rattle.mrt_body.specs.declared.state_rule.StateRule.TheVariants.{Recorded, Established}
-use Rattle.mrt_body.specs.declared.unit.PeerAddr.TheVariants.{V4, V6}
-use Rattle.mrt_body.specs.declared.unit.PeerKey.{PeerKey}
-use Rattle.mrt_body.specs.declared.unit.Payload.TheVariants.{State, Message, Entry}
-use Rattle.mrt_body.specs.Plain.{Event, Found, Payload}
-use Rattle.mrt_body.specs.declared.unit.Found.TheVariants as found
-use Rattle.mrt_body.specs.declared.meaning.Event.TheVariants as event
+use Rattle.peer_units.specs.declared.state_rule.StateRule.TheVariants.{Recorded, Established}
+use Rattle.peer_units.specs.declared.unit.PeerAddr.TheVariants.{V4, V6}
+use Rattle.peer_units.specs.declared.unit.PeerKey.{PeerKey}
+use Rattle.peer_units.specs.declared.unit.Payload.TheVariants.{State, Message, Entry}
+use Rattle.peer_units.specs.Plain.{Event, Found, Payload}
+use Rattle.peer_units.specs.declared.unit.Found.TheVariants as found
+use Rattle.peer_units.specs.declared.meaning.Event.TheVariants as event
 use Rattle.mrt_body.specs.Indexes.{index_in, index_head_at, peers_in, written_peer_at}
 use Rattle.mrt_body.specs.RibRecords.{rib_in, rib_head_at, entry_at}
 use Rattle.mrt_body.specs.Bgp4mp.{session_at, session_peer_at, states_in}
-use Rattle.mrt_body.specs.Choices.{UnitSelection, PeerShare, all_of, all_units, peer_hash, share_from}
-use Rattle.mrt_body.specs.declared.choice.PeerChoice.{PeerChoice}
+use Rattle.peer_units.specs.Choices.{UnitSelection, PeerShare, all_of, all_units, peer_hash, share_from}
+use Rattle.peer_units.specs.declared.choice.PeerChoice.{PeerChoice}
 use Rattle.mrt_body.specs.Units.{found_in, found_at, body_kind_of, message_unit, states_unit, aside_of, records_of}
-use Rattle.mrt_body.specs.Events.{event_in, message_event_in, message_in}
+use Rattle.peer_units.specs.Events.{event_in, message_event_in, message_in}
 use Rattle.mrt_body.proofs.Dumps.{marker_16, session_four, plain_attributes, announcement, state_change, peer_table, rib_with, rib_record}
 
 -- each row is a selection, files, and what is found in them

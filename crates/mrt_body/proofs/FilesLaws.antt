@@ -13,12 +13,12 @@ use Rattle.mrt_frame.specs.declared.read_state.ReadState.TheVariants.{Reading}
 use Rattle.std.specs.Io.KnownBytes.{Consumes}
 use Rattle.mrt_frame.specs.Frames.{Position, to_come, KeepsUnlessRead}
 use Rattle.mrt_frame.specs.declared.fault.Fault.{Fault}
-use Rattle.mrt_body.specs.Choices.{UnitSelection}
-use Rattle.mrt_body.specs.declared.unit.PeerKey.{PeerKey}
-use Rattle.mrt_body.specs.declared.unit.Damage.{Damage}
-use Rattle.mrt_body.specs.Plain.{Unit as ReplayUnit}
-use Rattle.mrt_body.specs.Plain.{Found}
-use Rattle.mrt_body.specs.declared.unit.Found.TheVariants as found
+use Rattle.peer_units.specs.Choices.{UnitSelection}
+use Rattle.peer_units.specs.declared.unit.PeerKey.{PeerKey}
+use Rattle.peer_units.specs.declared.unit.Damage.{Damage}
+use Rattle.peer_units.specs.Plain.{Unit as ReplayUnit}
+use Rattle.peer_units.specs.Plain.{Found}
+use Rattle.peer_units.specs.declared.unit.Found.TheVariants as found
 use Rattle.mrt_frame.specs.Cuts.{cuts, fault_at}
 use Rattle.mrt_body.specs.RibDumps.{DumpsState, no_dumps}
 use Rattle.mrt_body.specs.Units.{dumps_behind_cuts, found_in, found_in_files, all_cuts, is_whole, is_aside, unit_of}

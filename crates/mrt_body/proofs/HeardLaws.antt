@@ -6,10 +6,10 @@ use Rattle.std.specs.Ordering.{match_ordering}
 use Rattle.std.specs.declared.cmp.Ordering.{Ordering}
 use Rattle.std.specs.declared.cmp.Ordering.TheVariants.{Less, Equal, Greater}
 use Rattle.mrt_body.specs.declared.record_place.RecordAt.{RecordAt}
-use Rattle.mrt_body.specs.declared.rib_rule.RibRule.{RibRule}
-use Rattle.mrt_body.specs.declared.rib_rule.RibRule.TheVariants.{Add, Replace}
-use Rattle.mrt_body.specs.declared.unit.PeerKey.{PeerKey}
-use Rattle.mrt_body.specs.Plain.{Unit as ReplayUnit}
+use Rattle.peer_units.specs.declared.rib_rule.RibRule.{RibRule}
+use Rattle.peer_units.specs.declared.rib_rule.RibRule.TheVariants.{Add, Replace}
+use Rattle.peer_units.specs.declared.unit.PeerKey.{PeerKey}
+use Rattle.peer_units.specs.Plain.{Unit as ReplayUnit}
 use Rattle.mrt_body.specs.RibDumps.{DumpsState, peer_cmp, hear, heard_of, dumps_with}
 use Rattle.mrt_body.specs.Units.{clear_unit, clears_if}
 

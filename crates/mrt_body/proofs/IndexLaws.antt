@@ -8,9 +8,9 @@ use Rattle.mrt_frame.specs.declared.cut.Cut.TheVariants.{Whole, Broken}
 use Rattle.mrt_frame.specs.Cuts.{cuts}
 use Rattle.mrt_frame.specs.Positions.{flat_map_after}
 use Rattle.bgp_update.specs.Families.{FamilyOf}
-use Rattle.mrt_body.specs.Plain.{Found}
-use Rattle.mrt_body.specs.Choices.{UnitSelection}
-use Rattle.mrt_body.specs.declared.unit.PeerKey.{PeerKey}
+use Rattle.peer_units.specs.Plain.{Found}
+use Rattle.peer_units.specs.Choices.{UnitSelection}
+use Rattle.peer_units.specs.declared.unit.PeerKey.{PeerKey}
 use Rattle.mrt_body.specs.RibDumps.{DumpsState}
 use Rattle.mrt_body.specs.Units.{body_kind_of, is_index_content, index_of_body, index_body, index_before, index_after, dumps_after, dumps_behind_cuts, found_at, found_from, found_in_file}
 

@@ -1,7 +1,6 @@
 pub mod IndexLaws
 pub mod Dumps
 pub mod Examples
-pub mod MessageLaws
 pub mod ManyLaws
 pub mod EntryLaws
 pub mod ListLaws
@@ -23,10 +22,5 @@ pub mod HeardLaws
 pub mod StepLaws
 pub mod FilesLaws
 pub mod HeadParts
-pub mod EventLaws
 pub mod ReadingLaws
 pub mod RuleLaws
-pub mod OpenLaws
-pub mod NamedLaws
-pub mod DecodedLaws
-pub mod HeldLaws

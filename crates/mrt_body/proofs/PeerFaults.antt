@@ -6,12 +6,13 @@ use Rattle.mrt_frame.specs.declared.fault.Fault.TheVariants.{ShortRecord, Traili
 use Rattle.mrt_frame.specs.Fields.{◌>>=◌, byte_at, number_at, bytes_at}
 use Rattle.mrt_frame.proofs.FieldLaws.{IsBytes}
 use Rattle.bgp_update.proofs.Readings.{mapped_err}
-use Rattle.mrt_body.specs.declared.unit.PeerKey.{PeerKey}
+use Rattle.peer_units.specs.declared.unit.PeerKey.{PeerKey}
 use Rattle.mrt_body.specs.Many.{many}
 use Rattle.mrt_body.specs.Indexes.{addr_at, asn_at, has_ipv6, asn_width, peer_bytes, FitsPeer, IndexForm, index_bytes, FitsIndex, written_peer_at, IndexHead, index_head_at, index_in, peers_of, peers_in}
 use Rattle.mrt_body.specs.Agreement.{IsIndexBody}
 use Rattle.mrt_body.proofs.ManyLaws.{BreaksOff, GoesOn, many-unread, many-goes_on}
-use Rattle.mrt_body.proofs.ShortFields.{IsShort, then_short, only_short, ok_never, byte_short, number_short, bytes_short, addr_short, asn_short}
+use Rattle.peer_units.proofs.MessageLaws.{ok_never}
+use Rattle.mrt_body.proofs.ShortFields.{IsShort, then_short, only_short, byte_short, number_short, bytes_short, addr_short, asn_short}
 use Rattle.mrt_body.proofs.PeerForms.{head_with, head_bytes, head_takes, head_again, peer_takes, peer_again}
 
 peer_short : (bytes : List ℕ) → IsShort (written_peer_at bytes)

@@ -7,9 +7,9 @@ use Rattle.mrt_frame.specs.Fields.{◌>>=◌, byte_at, number_at, bytes_at}
 use Rattle.mrt_frame.proofs.Items.{bind_ok, ok_is}
 use Rattle.mrt_frame.proofs.FieldLaws.{IsBytes, byte_at-takes, byte_at-again, number_takes, number_at-again, bytes_at-takes, bytes_at-again}
 use Rattle.bgp_update.specs.Segments.{number_len}
-use Rattle.mrt_body.specs.declared.unit.PeerAddr.{PeerAddr}
-use Rattle.mrt_body.specs.declared.unit.PeerAddr.TheVariants.{V4, V6}
-use Rattle.mrt_body.specs.declared.unit.PeerKey.{PeerKey}
+use Rattle.peer_units.specs.declared.unit.PeerAddr.{PeerAddr}
+use Rattle.peer_units.specs.declared.unit.PeerAddr.TheVariants.{V4, V6}
+use Rattle.peer_units.specs.declared.unit.PeerKey.{PeerKey}
 use Rattle.mrt_body.specs.Many.{many}
 use Rattle.mrt_body.specs.Indexes.{addr_bytes, is_ipv6, FitsAddr, asn_bytes, addr_at, asn_at, WrittenPeer, has_ipv6, asn_width, peer_bytes, FitsPeer, IndexForm, index_bytes, FitsIndex, written_peer_at, IndexHead, index_head_at, index_in, peers_of, peers_in}
 use Rattle.mrt_body.specs.Agreement.{IsIndexBody}

@@ -3,8 +3,8 @@ use Rattle.std.proofs.Common.{◌≡◌, ℕ, List, [], ◌∷◌, ◌++◌, len
 use Rattle.std.specs.List.{count_by}
 use Rattle.std.proofs.lemmas.List.{drop_all}
 use Rattle.mrt_frame.specs.declared.error.ReplayError.TheVariants.{Read}
-use Rattle.mrt_body.specs.Choices.{UnitSelection}
-use Rattle.mrt_body.specs.Plain.{Found}
+use Rattle.peer_units.specs.Choices.{UnitSelection}
+use Rattle.peer_units.specs.Plain.{Found}
 use Rattle.mrt_body.specs.Units.{found_in, records_of, aside_of, is_whole, is_aside}
 use Rattle.mrt_body.specs.ToCome.{UnitsState, TakesFound, HasEnded, GivesAllBefore, FailsBehind, fresh_units, as_found, found_to_come, cuts_to_come}
 use Rattle.mrt_body.proofs.FilesLaws.{fresh_found, fresh_cuts}

@@ -15,7 +15,8 @@ use Rattle.mrt_body.specs.Many.{many}
 use Rattle.mrt_body.specs.RibRecords.{WrittenEntry, entry_bytes, FitsEntry, RibForm, rib_bytes, FitsRib, peer_index_at, identifier_at, entry_at, RibHead, rib_head_at, rib_in}
 use Rattle.mrt_body.specs.Refusals.{HasBadPrefix, HasUnknownPeer}
 use Rattle.mrt_body.proofs.ManyLaws.{BreaksOff, GoesOn, bind_err, many-unread, many-goes_on, many-breaks_off}
-use Rattle.mrt_body.proofs.ShortFields.{IsShort, then_short, ok_never, byte_short, number_short, bytes_short}
+use Rattle.peer_units.proofs.MessageLaws.{ok_never}
+use Rattle.mrt_body.proofs.ShortFields.{IsShort, then_short, byte_short, number_short, bytes_short}
 use Rattle.mrt_body.proofs.RibForms.{TakesHead, head_with, head_bytes, head_takes, head_again, entry_takes, entry_again}
 
 -- ---- an entry

@@ -12,8 +12,8 @@ use Rattle.mrt_frame.proofs.FieldLaws.{IsBytes, IsBytes-drop, TakesNumber, byte_
 use Rattle.bgp_update.specs.Keys.{octets_at}
 use Rattle.bgp_update.specs.Families.{FamilyOf}
 use Rattle.mrt_body.specs.declared.record_place.RecordAt.{RecordAt}
-use Rattle.mrt_body.specs.declared.unit.PeerKey.{PeerKey}
-use Rattle.mrt_body.specs.Plain.{Unit as ReplayUnit}
+use Rattle.peer_units.specs.declared.unit.PeerKey.{PeerKey}
+use Rattle.peer_units.specs.Plain.{Unit as ReplayUnit}
 use Rattle.mrt_body.specs.Many.{many}
 use Rattle.mrt_body.specs.RibRecords.{WrittenEntry, identifier_bytes, entry_bytes, FitsIdentifier, FitsEntry, RibForm, rib_bytes, FitsRib, peer_index_at, identifier_at, entry_at, RibHead, rib_head_at, rib_in}
 use Rattle.mrt_body.specs.Units.{rib_units, rib_units_in}

@@ -17,22 +17,23 @@ use Rattle.bgp_update.specs.Families.{FamilyOf}
 use Rattle.mrt_body.specs.declared.record_place.RecordAt.{RecordAt}
 use Rattle.mrt_body.specs.declared.body_kind.BodyKind.{BodyKind}
 use Rattle.mrt_body.specs.declared.body_kind.BodyKind.TheVariants as content
-use Rattle.mrt_body.specs.declared.state_rule.StateRule.{StateRule}
-use Rattle.mrt_body.specs.declared.rib_rule.RibRule.TheVariants.{Add}
-use Rattle.mrt_body.specs.Plain.{Payload}
-use Rattle.mrt_body.specs.declared.unit.Payload.TheVariants.{State, Message, Entry}
-use Rattle.mrt_body.specs.declared.unit.PeerKey.{PeerKey}
-use Rattle.mrt_body.specs.Plain.{Unit as ReplayUnit}
-use Rattle.mrt_body.specs.Plain.{Found}
-use Rattle.mrt_body.specs.declared.unit.Found.TheVariants as found
-use Rattle.mrt_body.specs.Choices.{UnitSelection}
+use Rattle.peer_units.specs.declared.state_rule.StateRule.{StateRule}
+use Rattle.peer_units.specs.declared.rib_rule.RibRule.TheVariants.{Add}
+use Rattle.peer_units.specs.Plain.{Payload}
+use Rattle.peer_units.specs.declared.unit.Payload.TheVariants.{State, Message, Entry}
+use Rattle.peer_units.specs.declared.unit.PeerKey.{PeerKey}
+use Rattle.peer_units.specs.Plain.{Unit as ReplayUnit}
+use Rattle.peer_units.specs.Plain.{Found}
+use Rattle.peer_units.specs.declared.unit.Found.TheVariants as found
+use Rattle.peer_units.specs.Choices.{UnitSelection}
 use Rattle.mrt_body.specs.Indexes.{peers_in}
 use Rattle.mrt_body.specs.RibRecords.{RibForm, WrittenEntry, rib_beside, rib_prefix}
 use Rattle.mrt_body.specs.Bgp4mp.{session_peer_at, states_in, microseconds_at}
-use Rattle.mrt_body.specs.Selections.{is_selected, is_past}
-use Rattle.mrt_body.specs.States.{IsByRule, AreByRule, IsOfFamily, AreOfFamily}
+use Rattle.peer_units.specs.Selections.{is_selected, is_past}
+use Rattle.peer_units.specs.States.{IsByRule, AreByRule, IsOfFamily, AreOfFamily}
 use Rattle.mrt_body.specs.RibDumps.{DumpsState, no_dumps, may_begin, replaces}
-use Rattle.mrt_body.specs.Units.{begins, clear_unit, clears_at, clears_if, is_recorded, time_of, dumps_behind_cuts, entry_unit, entry_units, rib_units, message_unit, states_unit, units_in, found_units, at_record, is_extended, body_kind_of, found_at, index_before, found_in_file, found_in_files, found_in, unit_of, units_of, refused_at}
+use Rattle.mrt_body.specs.Units.{begins, clear_unit, clears_at, clears_if, time_of, dumps_behind_cuts, entry_unit, entry_units, rib_units, message_unit, states_unit, units_in, found_units, at_record, is_extended, body_kind_of, found_at, index_before, found_in_file, found_in_files, found_in, unit_of, units_of, refused_at}
+use Rattle.peer_units.specs.Payloads.{is_recorded}
 
 module _ {A B : Type 0} (P : B → Type 0) where
   bound : (r : Result A Fault) (f : A → Result B Fault) → ((a : A) → IfOk (f a) P) → IfOk (r >>= f) P

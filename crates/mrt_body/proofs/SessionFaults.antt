@@ -11,11 +11,11 @@ use Rattle.bgp_update.specs.Segments.{number_len}
 use Rattle.bgp_update.specs.Families.{FamilyOf}
 use Rattle.bgp_update.proofs.Readings.{mapped_err}
 use Rattle.mrt_body.specs.declared.record_place.RecordAt.{RecordAt}
-use Rattle.mrt_body.specs.declared.state_rule.StateRule.{StateRule}
-use Rattle.mrt_body.specs.declared.unit.PeerAddr.{PeerAddr}
-use Rattle.mrt_body.specs.declared.unit.PeerKey.{PeerKey}
-use Rattle.mrt_body.specs.declared.unit.Payload.TheVariants.{State, Message}
-use Rattle.mrt_body.specs.Plain.{Unit as ReplayUnit}
+use Rattle.peer_units.specs.declared.state_rule.StateRule.{StateRule}
+use Rattle.peer_units.specs.declared.unit.PeerAddr.{PeerAddr}
+use Rattle.peer_units.specs.declared.unit.PeerKey.{PeerKey}
+use Rattle.peer_units.specs.declared.unit.Payload.TheVariants.{State, Message}
+use Rattle.peer_units.specs.Plain.{Unit as ReplayUnit}
 use Rattle.mrt_body.specs.Many.{ended}
 use Rattle.mrt_body.specs.Indexes.{asn_bytes, addr_at, asn_at}
 use Rattle.mrt_body.specs.Bgp4mp.{SessionForm, session_bytes, session_peer, family_at, session_at, session_peer_at, states_in, microseconds_at, microseconds_bytes}
@@ -23,7 +23,8 @@ use Rattle.mrt_body.specs.Units.{session_unit, message_unit, states_unit}
 use Rattle.mrt_body.specs.Agreement.{IsStatesBody}
 use Rattle.mrt_body.specs.Refusals.{HasOtherFamily}
 use Rattle.mrt_body.proofs.ManyLaws.{bind_err}
-use Rattle.mrt_body.proofs.ShortFields.{IsShort, then_short, ok_never, number_short, addr_short, asn_short}
+use Rattle.peer_units.proofs.MessageLaws.{ok_never}
+use Rattle.mrt_body.proofs.ShortFields.{IsShort, then_short, number_short, addr_short, asn_short}
 use Rattle.mrt_body.proofs.SessionForms.{peer_takes, peer_again, microseconds_take, microseconds_again}
 
 -- ---- the family

@@ -10,11 +10,11 @@ use Rattle.bgp_update.specs.declared.width.Width.{Width}
 use Rattle.bgp_update.specs.Segments.{number_len}
 use Rattle.bgp_update.specs.Families.{FamilyOf}
 use Rattle.mrt_body.specs.declared.record_place.RecordAt.{RecordAt}
-use Rattle.mrt_body.specs.declared.unit.PeerAddr.{PeerAddr}
-use Rattle.mrt_body.specs.declared.unit.PeerKey.{PeerKey}
-use Rattle.mrt_body.specs.declared.state_rule.StateRule.{StateRule}
-use Rattle.mrt_body.specs.declared.unit.Payload.TheVariants.{State, Message}
-use Rattle.mrt_body.specs.Plain.{Unit as ReplayUnit}
+use Rattle.peer_units.specs.declared.unit.PeerAddr.{PeerAddr}
+use Rattle.peer_units.specs.declared.unit.PeerKey.{PeerKey}
+use Rattle.peer_units.specs.declared.state_rule.StateRule.{StateRule}
+use Rattle.peer_units.specs.declared.unit.Payload.TheVariants.{State, Message}
+use Rattle.peer_units.specs.Plain.{Unit as ReplayUnit}
 use Rattle.mrt_body.specs.Many.{ended}
 use Rattle.mrt_body.specs.Indexes.{addr_bytes, is_ipv6, asn_bytes, addr_at, asn_at}
 use Rattle.mrt_body.specs.Bgp4mp.{SessionForm, family_of, session_bytes, FitsSession, session_peer, family_at, session_at, session_peer_at, states_in, microseconds_at, microseconds_bytes, FitsMicroseconds}

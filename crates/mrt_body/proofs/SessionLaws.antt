@@ -6,11 +6,11 @@ use Rattle.mrt_frame.proofs.Items.{bind_ok}
 use Rattle.bgp_update.specs.declared.width.Width.{Width}
 use Rattle.bgp_update.specs.Segments.{number_len}
 use Rattle.bgp_update.specs.Families.{FamilyOf}
-use Rattle.mrt_body.specs.declared.unit.PeerAddr.{PeerAddr}
-use Rattle.mrt_body.specs.declared.unit.PeerAddr.TheVariants.{V4, V6}
-use Rattle.mrt_body.specs.declared.unit.PeerKey.{PeerKey}
+use Rattle.peer_units.specs.declared.unit.PeerAddr.{PeerAddr}
+use Rattle.peer_units.specs.declared.unit.PeerAddr.TheVariants.{V4, V6}
+use Rattle.peer_units.specs.declared.unit.PeerKey.{PeerKey}
 use Rattle.mrt_body.specs.declared.record_place.RecordAt.{RecordAt}
-use Rattle.mrt_body.specs.declared.unit.Payload.TheVariants.{Message}
+use Rattle.peer_units.specs.declared.unit.Payload.TheVariants.{Message}
 use Rattle.mrt_body.specs.Units.{session_unit, message_unit}
 use Rattle.mrt_body.specs.Indexes.{addr_at, asn_at}
 use Rattle.mrt_body.specs.Bgp4mp.{SessionForm, session_peer, family_at, session_at, session_peer_at, microseconds_at}

@@ -7,8 +7,9 @@ use Rattle.mrt_frame.specs.declared.fault.Fault.TheVariants.{ShortRecord}
 use Rattle.mrt_frame.specs.Fields.{◌>>=◌, byte_at, number_at, bytes_at}
 use Rattle.bgp_update.specs.declared.width.Width.{Width}
 use Rattle.bgp_update.specs.Segments.{number_len}
-use Rattle.mrt_body.specs.declared.unit.PeerAddr.TheVariants.{V4, V6}
+use Rattle.peer_units.specs.declared.unit.PeerAddr.TheVariants.{V4, V6}
 use Rattle.mrt_body.specs.Indexes.{addr_at, asn_at}
+use Rattle.peer_units.proofs.MessageLaws.{ok_never}
 use Rattle.mrt_body.proofs.ManyLaws.{bind_err}
 
 -- it fails with ShortRecord or not at all
@@ -41,10 +42,6 @@ then_short {A} {B} {P} r f fault short more e = by_step (bind_err r f fault e)
 pub only_short : {fault : Fault} → ⊥ ⊎ (fault ≡ ShortRecord) → fault ≡ ShortRecord
 only_short (inl h) = absurd h
 only_short (inr h) = h
-
--- what is read is never a fault
-pub ok_never : {A P : Type 0} (x : A) (fault : Fault) → Ok x ≡ Err fault → P
-ok_never x fault e = absurd cc
 
 pub addr_short : (is_long : Bool) (bytes : List ℕ) → IsShort (addr_at is_long bytes)
 addr_short true bytes fault e = only_short (then_short (number_at ShortRecord 16 bytes) (λ addr. Ok (V6 addr.0, addr.1)) fault (number_short 16 bytes) (λ x is h. ok_never (V6 x.0, x.1) fault h) e)

@@ -5,14 +5,14 @@ use Rattle.std.specs.List.{filter}
 use Rattle.std.proofs.lemmas.List.Elements.{All-filter}
 use Rattle.std.proofs.lemmas.List.Sums.{length-filter, count_by-le-length}
 use Rattle.bgp_update.specs.Families.{FamilyOf}
-use Rattle.mrt_body.specs.Choices.{UnitSelection, PeerShare, is_chosen, is_chosen_peer, is_in_share, has_no_peers, has_no_share}
-use Rattle.mrt_body.specs.declared.choice.PeerChoice.{PeerChoice}
+use Rattle.peer_units.specs.Choices.{UnitSelection, PeerShare, is_chosen, is_chosen_peer, is_in_share, has_no_peers, has_no_share}
+use Rattle.peer_units.specs.declared.choice.PeerChoice.{PeerChoice}
 use Rattle.mrt_body.specs.declared.rib.ListedEntry.{ListedEntry}
 use Rattle.mrt_body.specs.Pending.{RibRecord}
-use Rattle.mrt_body.specs.declared.unit.PeerKey.{PeerKey}
-use Rattle.mrt_body.specs.Plain.{Unit as ReplayUnit}
+use Rattle.peer_units.specs.declared.unit.PeerKey.{PeerKey}
+use Rattle.peer_units.specs.Plain.{Unit as ReplayUnit}
 use Rattle.mrt_body.specs.Units.{time_of, no_peer}
-use Rattle.mrt_body.specs.Selections.{is_past, is_selected, takes_each_peer, takes_peer, takes_record}
+use Rattle.peer_units.specs.Selections.{is_past, is_selected, takes_each_peer, takes_peer, takes_record}
 use Rattle.mrt_body.specs.Listed.{IsListed}
 use Rattle.mrt_body.specs.Pending.{AreListed, listed_unit, units_left}
 

@@ -1,6 +1,6 @@
 -- What is still to be given: the units that wait, and behind them entries.
 use Rattle.std.proofs.Common.{◌≡◌, ℕ, zero, suc, ◌-◌, ◌<◌, List, [], ◌∷◌, ◌++◌, drop, length, refl, ap, ◌∙◌, arith}
-use Rattle.mrt_body.specs.Plain.{Unit as ReplayUnit}
+use Rattle.peer_units.specs.Plain.{Unit as ReplayUnit}
 
 -- where nothing is, neither is
 pub both_none : (waiting entries : List ReplayUnit) → waiting ++ entries ≡ [] → (waiting ≡ []) × (entries ≡ [])

@@ -6,8 +6,8 @@ use Rattle.mrt_frame.specs.declared.fault.Fault.TheVariants.{ShortRecord, BadFam
 use Rattle.mrt_frame.specs.Fields.{Reading, ◌>>=◌, number_at}
 use Rattle.bgp_update.specs.declared.width.Width.{Width}
 use Rattle.bgp_update.specs.Segments.{number_len}
-use Rattle.mrt_body.specs.declared.unit.PeerAddr.{PeerAddr}
-use Rattle.mrt_body.specs.declared.unit.PeerKey.{PeerKey}
+use Rattle.peer_units.specs.declared.unit.PeerAddr.{PeerAddr}
+use Rattle.peer_units.specs.declared.unit.PeerKey.{PeerKey}
 use Rattle.mrt_body.specs.Indexes.{addr_bytes, is_ipv6, FitsAddr, asn_bytes, addr_at, asn_at}
 use Rattle.mrt_body.specs.Many.{ended}
 

@@ -1,17 +1,9 @@
-pub mod Plain
-pub mod Events
-pub mod DecodedEvents
 pub mod Many
 pub mod Indexes
 pub mod RibRecords
 pub mod Bgp4mp
-pub mod States
-pub mod Choices
-pub mod Named
-pub mod Selections
 pub mod RibDumps
 pub mod Units
-pub mod HeldBytes
 pub mod Agreement
 pub mod Refusals
 pub mod Listed

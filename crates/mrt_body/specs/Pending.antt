@@ -4,8 +4,8 @@ use Rattle.std.specs.List.{All}
 use Rattle.bgp_prefix.specs.Prefixes.{IpPrefix}
 use Rattle.bgp_update.specs.Families.{FamilyOf}
 use Rattle.mrt_body.specs.declared.record_place.RecordAt.{RecordAt}
-use Rattle.mrt_body.specs.declared.unit.PeerKey.{PeerKey}
-use Rattle.mrt_body.specs.Plain.{Unit as ReplayUnit}
+use Rattle.peer_units.specs.declared.unit.PeerKey.{PeerKey}
+use Rattle.peer_units.specs.Plain.{Unit as ReplayUnit}
 use Rattle.mrt_body.specs.declared.rib.ListedEntry.{ListedEntry}
 use Rattle.mrt_body.specs.declared.entries.RibRecord.{RibRecord as RibRecordOf}
 use Rattle.mrt_body.specs.RibRecords.{ReadEntry}

@@ -6,9 +6,9 @@ use Rattle.mrt_frame.specs.declared.cut.Cut.{Cut}
 use Rattle.mrt_frame.specs.declared.error.ReplayError.{ReplayError}
 use Rattle.mrt_frame.specs.declared.error.ReplayError.TheVariants as errors
 use Rattle.mrt_frame.specs.declared.read_state.ReadState.TheVariants.{Reading, Failed, Spent}
-use Rattle.mrt_body.specs.Plain.{Found}
+use Rattle.peer_units.specs.Plain.{Found}
 use Rattle.mrt_body.specs.Units.{unit_of}
-use Rattle.mrt_body.specs.declared.unit.Damage.{Damage}
+use Rattle.peer_units.specs.declared.unit.Damage.{Damage}
 use Rattle.mrt_body.specs.ToCome.{UnitsState, CutsOne, FailsInRecord, GivesAllBefore, HasCause, HasCauseInFile, HasEnded, KeepsPlan, NothingToCome, TakesFound, answers_left, steps_left, unit_limit, units_left}
 
 -- ---- a call over all files, whose readers still give these bytes and failed so often

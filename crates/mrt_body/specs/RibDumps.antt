@@ -5,14 +5,14 @@ use Rattle.std.specs.BTreeSet.{insert_key}
 use Rattle.std.specs.Ordering.{nat_cmp, ordering_then}
 use Rattle.std.specs.declared.cmp.Ordering.{Ordering}
 use Rattle.std.specs.declared.cmp.Ordering.TheVariants.{Less, Greater}
-use Rattle.mrt_body.specs.declared.rib_rule.RibRule.{RibRule}
-use Rattle.mrt_body.specs.declared.rib_rule.RibRule.TheVariants.{Add, Replace}
-use Rattle.mrt_body.specs.declared.unit.PeerAddr.{PeerAddr}
-use Rattle.mrt_body.specs.declared.unit.PeerAddr.TheVariants.{V4, V6}
-use Rattle.mrt_body.specs.declared.unit.PeerKey.{PeerKey}
-use Rattle.mrt_body.specs.Plain.{Unit as ReplayUnit}
-use Rattle.mrt_body.specs.Choices.{UnitSelection}
-use Rattle.mrt_body.specs.Selections.{is_past}
+use Rattle.peer_units.specs.declared.rib_rule.RibRule.{RibRule}
+use Rattle.peer_units.specs.declared.rib_rule.RibRule.TheVariants.{Add, Replace}
+use Rattle.peer_units.specs.declared.unit.PeerAddr.{PeerAddr}
+use Rattle.peer_units.specs.declared.unit.PeerAddr.TheVariants.{V4, V6}
+use Rattle.peer_units.specs.declared.unit.PeerKey.{PeerKey}
+use Rattle.peer_units.specs.Plain.{Unit as ReplayUnit}
+use Rattle.peer_units.specs.Choices.{UnitSelection}
+use Rattle.peer_units.specs.Selections.{is_past}
 
 -- ---- peers in order
 

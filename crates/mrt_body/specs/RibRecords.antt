@@ -10,7 +10,7 @@ use Rattle.mrt_frame.specs.declared.fault.Fault.TheVariants.{ShortRecord, NoPeer
 use Rattle.mrt_frame.specs.Fields.{Reading, ◌>>=◌, byte_at, number_at, bytes_at}
 use Rattle.bgp_update.specs.Families.{FamilyOf}
 use Rattle.bgp_update.specs.Keys.{octets_at, prefix_of}
-use Rattle.mrt_body.specs.declared.unit.PeerKey.{PeerKey}
+use Rattle.peer_units.specs.declared.unit.PeerKey.{PeerKey}
 use Rattle.mrt_body.specs.Many.{many}
 
 -- peer index 2, originated time 4, path identifier 4 where there are some, attributes length 2, attributes

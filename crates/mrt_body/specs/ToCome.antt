@@ -13,12 +13,12 @@ use Rattle.mrt_frame.specs.declared.read_state.ReadState.{ReadState}
 use Rattle.mrt_frame.specs.declared.read_state.ReadState.TheVariants.{Reading, Ended, Failed, Spent}
 use Rattle.mrt_body.specs.declared.record_place.RecordAt.{RecordAt}
 use Rattle.mrt_body.specs.declared.body_kind.BodyKind.{BodyKind}
-use Rattle.mrt_body.specs.Choices.{UnitSelection}
-use Rattle.mrt_body.specs.declared.unit.PeerKey.{PeerKey}
-use Rattle.mrt_body.specs.Plain.{Unit as ReplayUnit}
-use Rattle.mrt_body.specs.declared.unit.Damage.{Damage}
-use Rattle.mrt_body.specs.Plain.{Found}
-use Rattle.mrt_body.specs.declared.unit.Found.TheVariants as found
+use Rattle.peer_units.specs.Choices.{UnitSelection}
+use Rattle.peer_units.specs.declared.unit.PeerKey.{PeerKey}
+use Rattle.peer_units.specs.Plain.{Unit as ReplayUnit}
+use Rattle.peer_units.specs.declared.unit.Damage.{Damage}
+use Rattle.peer_units.specs.Plain.{Found}
+use Rattle.peer_units.specs.declared.unit.Found.TheVariants as found
 use Rattle.mrt_body.specs.Pending.{IndexState}
 use Rattle.mrt_body.specs.RibDumps.{DumpsState, no_dumps}
 use Rattle.mrt_body.specs.Units.{begins, clears_at, dumps_behind, dumps_behind_cuts, found_from, found_in_files, found_units, units_in, index_with, aside_count, all_cuts, is_whole, is_aside}

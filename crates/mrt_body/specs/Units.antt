@@ -1,5 +1,5 @@
 -- The units and refusals of dumps (RFC 6396, sections 2, 4.3 and 4.4; 3 for extended timestamps; RFC 8050).
-use Rattle.std.specs.Prelude.{ℕ, ◌+◌, ◌*◌, Bool, true, false, List, [], ◌∷◌, ◌++◌, map, Option, Some, None, Result, Ok, Err, slice_index_or, ◌==◌, ◌&&◌, ◌||◌, if◌then◌else◌, ◌≤◌, ⊤, length}
+use Rattle.std.specs.Prelude.{ℕ, ◌+◌, ◌*◌, Bool, true, false, List, [], ◌∷◌, ◌++◌, map, Option, Some, None, Result, Ok, Err, slice_index_or, ◌==◌, ◌&&◌, ◌||◌, if◌then◌else◌, ⊤}
 use Rattle.std.specs.List.{filter, filter_map, count_by, flat_map, last_or}
 use Rattle.std.specs.Option.{option_and_then}
 use Rattle.bgp_prefix.specs.Prefixes.{IpPrefix}
@@ -9,30 +9,29 @@ use Rattle.mrt_frame.specs.declared.fault.Fault.{Fault}
 use Rattle.mrt_frame.specs.declared.cut.Cut.{Cut}
 use Rattle.mrt_frame.specs.declared.cut.Cut.TheVariants.{Whole, Broken}
 use Rattle.mrt_frame.specs.Fields.{◌>>=◌}
-use Rattle.mrt_frame.specs.Cuts.{body_limit, cuts}
+use Rattle.mrt_frame.specs.Cuts.{cuts}
 use Rattle.bgp_update.specs.Families.{FamilyOf}
 use Rattle.bgp_update.specs.declared.width.Width.{Width}
 use Rattle.bgp_update.specs.declared.width.Width.TheVariants.{Two, Four}
 use Rattle.mrt_body.specs.declared.record_place.RecordAt.{RecordAt}
 use Rattle.mrt_body.specs.declared.body_kind.BodyKind.{BodyKind}
 use Rattle.mrt_body.specs.declared.body_kind.BodyKind.TheVariants as content
-use Rattle.mrt_body.specs.declared.state_rule.StateRule.{StateRule}
-use Rattle.mrt_body.specs.declared.unit.PeerAddr.TheVariants.{V4}
-use Rattle.mrt_body.specs.declared.unit.PeerKey.{PeerKey}
-use Rattle.mrt_body.specs.declared.unit.Place.{Place}
-use Rattle.mrt_body.specs.declared.unit.Damage.{Damage}
-use Rattle.mrt_body.specs.Plain.{Payload}
-use Rattle.mrt_body.specs.declared.unit.Payload.{Payload as PayloadOf}
-use Rattle.mrt_body.specs.declared.unit.Payload.TheVariants.{State, Message, Entry, Clear}
-use Rattle.mrt_body.specs.declared.unit.Unit.{Unit as UnitOf}
-use Rattle.mrt_body.specs.Plain.{Unit as ReplayUnit}
-use Rattle.mrt_body.specs.Plain.{Found}
-use Rattle.mrt_body.specs.declared.unit.Found.TheVariants as found
-use Rattle.mrt_body.specs.Choices.{UnitSelection}
+use Rattle.peer_units.specs.declared.state_rule.StateRule.{StateRule}
+use Rattle.peer_units.specs.declared.unit.PeerAddr.TheVariants.{V4}
+use Rattle.peer_units.specs.declared.unit.PeerKey.{PeerKey}
+use Rattle.peer_units.specs.declared.unit.Place.{Place}
+use Rattle.peer_units.specs.declared.unit.Damage.{Damage}
+use Rattle.peer_units.specs.Plain.{Payload}
+use Rattle.peer_units.specs.declared.unit.Payload.TheVariants.{State, Message, Entry, Clear}
+use Rattle.peer_units.specs.Plain.{Unit as ReplayUnit}
+use Rattle.peer_units.specs.Plain.{Found}
+use Rattle.peer_units.specs.declared.unit.Found.TheVariants as found
+use Rattle.peer_units.specs.Choices.{UnitSelection}
 use Rattle.mrt_body.specs.Indexes.{peers_in}
 use Rattle.mrt_body.specs.RibRecords.{RibForm, WrittenEntry, rib_beside, rib_prefix}
 use Rattle.mrt_body.specs.Bgp4mp.{session_peer_at, states_in, microseconds_at}
-use Rattle.mrt_body.specs.Selections.{is_selected}
+use Rattle.peer_units.specs.Selections.{is_selected}
+use Rattle.peer_units.specs.Payloads.{IsSmallUnit}
 use Rattle.mrt_body.specs.RibDumps.{DumpsState, no_dumps, may_begin, dumps_with}
 use Rattle.std.specs.Result.{is_ok}
 
@@ -295,29 +294,6 @@ units_of selection files = filter_map unit_of (found_in selection files)
 
 unfoldable pub refused_of : UnitSelection → List (List ℕ) → List Damage
 refused_of selection files = filter_map damage_of (found_in selection files)
-
--- ---- what is recorded
-
--- whether a payload is what a record has of the peer, and not that a RIB dump clears its table
-abbrev pub is_recorded : Payload → Bool
-is_recorded (State from to rule) = true
-is_recorded (Message bytes width add_path family) = true
-is_recorded (Entry key attrs family) = true
-is_recorded Clear = false
-
--- ---- how many bytes a unit carries
-
-module _ {P K : Type 0} where
-  -- those of a message, or of an entry's attributes
-  abbrev pub payload_bytes : PayloadOf (List ℕ) P K → List ℕ
-  payload_bytes (State from to rule) = []
-  payload_bytes (Message bytes width add_path family) = bytes
-  payload_bytes (Entry key attrs family) = attrs
-  payload_bytes Clear = []
-
-  -- no more than the greatest body of a record
-  abbrev pub IsSmallUnit : UnitOf (List ℕ) P K → Type 0
-  IsSmallUnit unit = length (payload_bytes unit.payload) ≤ body_limit
 
 abbrev pub IsSmall : Found → Type 0
 IsSmall (found.Unit unit) = IsSmallUnit unit

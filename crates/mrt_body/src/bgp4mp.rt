@@ -5,9 +5,9 @@ ghost use Rattle.mrt_frame.specs.Fields.{Reads};
 ghost use Rattle.mrt_body.specs.Bgp4mp as bgp4mp;
 
 use crate::peer_index::{addr_at, asn_at};
-use crate::unit::PeerKey;
 use bgp_update::Width;
 use mrt_frame::{Fault, u16_at, u32_at};
+use peer_units::PeerKey;
 
 /// Whether the address family is IPv6.
 fn family_at(bytes: &[u8]) -> Result<(bool, &[u8]), Fault>

@@ -5,19 +5,18 @@ ghost use Rattle.bgp_update.specs.Results.{Gives};
 ghost use Rattle.mrt_frame.specs.Cuts.{body_limit};
 ghost use Rattle.mrt_body.specs.Units.{no_peer, rib_units_in};
 ghost use Rattle.mrt_body.specs.Pending.{AreListed, units_left};
-ghost use Rattle.mrt_body.specs.Selections.{is_selected, takes_peer};
+ghost use Rattle.peer_units.specs.Selections.{is_selected, takes_peer};
 ghost use Rattle.std.specs.List.{filter};
 ghost use Rattle.mrt_body.specs.RibDumps.{heard_of};
-ghost use Rattle.mrt_body.specs.declared.rib_rule.RibRule.TheVariants.{Replace};
+ghost use Rattle.peer_units.specs.declared.rib_rule.RibRule.TheVariants.{Replace};
 
 use crate::lent_units::LentEntries;
 use crate::record_place::RecordAt;
 use crate::rib::{ListedEntry, list_entries, rib_head_at};
 use crate::rib_dumps::RibDumps;
-use crate::selection::Selection;
-use crate::unit::{PeerAddr, PeerKey};
 use bgp_prefix::{Memory, Prefix, Sequence};
 use bgp_update::{AttrError, Unicast};
+use peer_units::{PeerAddr, PeerKey, Selection};
 
 /// A RIB record along with a list of its entries, which are returned one by one.
 #[derive(Drop)]

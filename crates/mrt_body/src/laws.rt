@@ -1,4 +1,4 @@
-//! The laws of bodies and of payloads, and of whole readings. Nothing is computed.
+//! The laws of bodies and of whole readings. Nothing is computed.
 
 ghost use Rattle.std.specs.Prelude.{◌≡◌, ◌↔◌, ℕ, Bool, List, Option, Ok, Err, ◌++◌, Some, length, map, true};
 ghost use Rattle.mrt_frame.specs.Bytes.{AreBytes};
@@ -6,21 +6,20 @@ ghost use Rattle.mrt_frame.specs.declared.fault.Fault.{Fault};
 ghost use Rattle.bgp_update.specs.Families.{FamilyOf};
 ghost use Rattle.mrt_body.specs.declared.record_place.RecordAt.{RecordAt};
 ghost use Rattle.mrt_body.specs.declared.body_kind.BodyKind.{BodyKind};
-ghost use Rattle.mrt_body.specs.Plain.{Event, Payload, Unit as ReplayUnit, Found};
-ghost use Rattle.mrt_body.specs.declared.state_rule.StateRule.{StateRule};
-ghost use Rattle.mrt_body.specs.declared.unit.PeerKey.{PeerKey};
+ghost use Rattle.peer_units.specs.Plain.{Unit as ReplayUnit, Found};
+ghost use Rattle.peer_units.specs.declared.state_rule.StateRule.{StateRule};
+ghost use Rattle.peer_units.specs.declared.unit.PeerKey.{PeerKey};
 ghost use Rattle.mrt_body.specs.Indexes.{peers_in};
-ghost use Rattle.mrt_body.specs.Events.{IsEvent, event_in};
-ghost use Rattle.mrt_body.specs.DecodedEvents.{is_recorded_event};
-ghost use Rattle.mrt_body.specs.Units.{is_recorded, payload_bytes, units_in, aside_of, found_in, records_of, units_of};
+ghost use Rattle.mrt_body.specs.Units.{units_in, aside_of, found_in, records_of, units_of};
+ghost use Rattle.peer_units.specs.Payloads.{is_recorded};
 ghost use Rattle.mrt_body.specs.Agreement.{IsIndexBody, Agrees};
 ghost use Rattle.mrt_body.specs.Refusals.{IsRefused};
 ghost use Rattle.std.specs.List.{All};
 ghost use Rattle.mrt_frame.specs.declared.error.ReplayError.TheVariants.{Read};
-ghost use Rattle.mrt_body.specs.Choices.{UnitSelection};
+ghost use Rattle.peer_units.specs.Choices.{UnitSelection};
 ghost use Rattle.mrt_body.specs.ToCome.{UnitsState, FailsBehind, GivesAllBefore, HasEnded, TakesFound, fresh_units};
-ghost use Rattle.mrt_body.specs.States.{AreByRule, AreOfFamily};
-ghost use Rattle.mrt_body.specs.declared.rib_rule.RibRule.TheVariants.{Add};
+ghost use Rattle.peer_units.specs.States.{AreByRule, AreOfFamily};
+ghost use Rattle.peer_units.specs.declared.rib_rule.RibRule.TheVariants.{Add};
 
 /// A record yields units exactly if its body agrees with its form (RFC 6396, 4.3 and 4.4; RFC 8050),
 /// and only these units: the bytes can be read in no other way. Any other record is refused for the
@@ -38,19 +37,6 @@ pub fn bodies_agree_with_their_forms()
     ensures refused { (family : FamilyOf) (rule : StateRule) (at : RecordAt) (extended : Bool) (index : Option (List PeerKey))
         (content : BodyKind) (body : List ℕ) (fault : Fault) → AreBytes body →
         (units_in family rule at extended index content body ≡ Err fault) ↔ IsRefused family rule at extended index content body fault }
-{}
-
-/// A payload has an event exactly if reading it yields one, and no event but this one
-/// (RFC 4271, 4.1 to 4.3). It is read by the family that it has.
-pub fn events_agree_with_their_payloads()
-    ensures events { (payload : Payload) (e : Event) → AreBytes (payload_bytes payload) →
-        (event_in payload ≡ Ok e) ↔ IsEvent payload e }
-    ensures one_event { (payload : Payload) (e other : Event) → IsEvent payload e → IsEvent payload other → e ≡ other }
-{}
-
-/// What a payload means tells whether a record has it of the peer: nothing but a clear means a clear.
-pub fn clears_are_told()
-    ensures { (payload : Payload) → is_recorded_event (event_in payload) ≡ is_recorded payload }
 {}
 
 /// What calls of `Units::next` returned joins, in order. What was returned from `Units::new` on is a front

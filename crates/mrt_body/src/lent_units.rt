@@ -1,14 +1,13 @@
 //! Units that are lent, in their order, by the record that was cut last.
 
 ghost use Rattle.std.specs.Prelude.{◌≡◌, ◌≤◌, ◌+◌, ◌∷◌, [], length, take, drop, None, IfSome};
-ghost use Rattle.mrt_body.specs.Units.{IsSmallUnit};
+ghost use Rattle.peer_units.specs.Payloads.{IsSmallUnit};
 
 use crate::record_place::RecordAt;
 use crate::rib::ListedEntry;
-use crate::unit::{Payload, PeerKey, Unit};
-use crate::unit_ref::{BytesRef, UnitRef};
 use bgp_prefix::{Prefix, RouteKey};
 use bgp_update::{FamilyMark, Unicast};
+use peer_units::{BytesRef, Payload, PeerKey, Unit, UnitRef};
 use std::marker::Model;
 
 /// Returns this many bytes from a position on.
@@ -33,7 +32,7 @@ pub struct LentEntries<'a, F: Unicast> {
 
 impl<'a, F: Unicast> Model for LentEntries<'a, F> {
     ghost use Rattle.std.specs.Prelude.{List};
-    ghost use Rattle.mrt_body.specs.Plain.{Unit as ReplayUnit};
+    ghost use Rattle.peer_units.specs.Plain.{Unit as ReplayUnit};
     ghost use Rattle.mrt_body.specs.Pending.{AreListed, units_left};
 
     ghost Value = { List ReplayUnit };

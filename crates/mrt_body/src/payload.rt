@@ -4,16 +4,15 @@ ghost use Rattle.std.specs.Prelude.{◌≤◌, ◌≡◌, [], IfOk, length};
 ghost use Rattle.mrt_frame.specs.Cuts.{body_limit};
 ghost use Rattle.mrt_frame.specs.Fields.{Reads};
 ghost use Rattle.mrt_body.specs.Units as units_spec;
-ghost use Rattle.mrt_body.specs.Units.{payload_bytes};
+ghost use Rattle.peer_units.specs.Payloads.{payload_bytes};
 
 use crate::bgp4mp::{microseconds_at, session_peer_at, states_in};
 use crate::record_place::RecordAt;
 use crate::session_unit::SessionUnit;
-use crate::state_rule::StateRule;
-use crate::unit::{Payload, Unit};
 use bgp_prefix::Sequence;
 use bgp_update::{FamilyMark, Unicast, Width};
 use mrt_frame::Fault;
+use peer_units::{Payload, StateRule, Unit};
 
 /// Returns the unit of a message, whose bytes are the end of the body.
 #[tactic(auto, unfolding(crate::specs::Units::message_unit))]

@@ -6,9 +6,9 @@ ghost use Rattle.bgp_update.specs.Results.{Gives};
 ghost use Rattle.mrt_body.specs.Indexes as indexes;
 ghost use Rattle.mrt_body.specs.Many.{many};
 
-use crate::unit::{PeerAddr, PeerKey};
 use bgp_update::{AttrError, Width};
 use mrt_frame::{Fault, byte_at, bytes_at, u16_at, u32_at, u128_at};
+use peer_units::{PeerAddr, PeerKey};
 use std::alloc::Global;
 
 /// Reads an address of sixteen or four bytes.

@@ -3,7 +3,7 @@
 ghost use Rattle.std.specs.Prelude.{◌≡◌};
 ghost use Rattle.mrt_body.specs.Units.{place_of, time_of};
 
-use crate::unit::Place;
+use peer_units::Place;
 
 /// The place of a record, and its time in seconds since 1970 UTC.
 #[derive(Clone, Copy, Debug, PartialEq, Eq)]

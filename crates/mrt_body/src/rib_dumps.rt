@@ -3,11 +3,9 @@
 ghost use Rattle.std.specs.Prelude.{◌≡◌, [], OnOk, false, true};
 ghost use Rattle.mrt_body.specs.RibDumps.{hear, may_begin, no_dumps};
 
-use crate::rib_rule::RibRule;
-use crate::selection::Selection;
-use crate::unit::PeerKey;
 use bgp_prefix::Memory;
 use bgp_update::Unicast;
+use peer_units::{PeerKey, RibRule, Selection};
 use std::alloc::Global;
 use std::collections::BTreeSet;
 use std::marker::Model;

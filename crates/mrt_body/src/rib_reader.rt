@@ -6,17 +6,16 @@ ghost use Rattle.mrt_frame.specs.Cuts.{body_limit};
 ghost use Rattle.mrt_body.specs.Units.{rib_units_in, selected_units};
 ghost use Rattle.mrt_body.specs.Pending.{without_pending};
 ghost use Rattle.mrt_body.specs.RibDumps.{heard_of};
-ghost use Rattle.mrt_body.specs.declared.rib_rule.RibRule.TheVariants.{Replace};
+ghost use Rattle.peer_units.specs.declared.rib_rule.RibRule.TheVariants.{Replace};
 
 use crate::entries::RibRecord;
 use crate::lent_units::LentEntries;
 use crate::record_place::RecordAt;
 use crate::rib::ListedEntry;
 use crate::rib_dumps::RibDumps;
-use crate::selection::Selection;
-use crate::unit::PeerKey;
 use bgp_prefix::{Memory, Prefix, Sequence};
 use bgp_update::{AttrError, Unicast};
+use peer_units::{PeerKey, Selection};
 use std::alloc::Global;
 use std::marker::Model;
 

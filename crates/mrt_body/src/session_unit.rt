@@ -1,9 +1,8 @@
 //! The unit of a BGP4MP record, which keeps the record's body; or one that clears a table.
 
-use crate::unit::{Payload, Unit};
-use crate::unit_ref::{BytesRef, UnitRef};
 use bgp_prefix::{Prefix, Sequence};
 use bgp_update::{FamilyMark, Unicast};
+use peer_units::{BytesRef, Payload, Unit, UnitRef};
 use std::marker::Model;
 
 /// A message or a state change, as the record has it: a message is the end of the body, from a position on. Or a clear,
@@ -17,8 +16,8 @@ pub(crate) struct SessionUnit<F: Unicast> {
 impl<F: Unicast> Model for SessionUnit<F> {
     ghost use Rattle.std.specs.Prelude.{◌≤◌, drop, length};
     ghost use Rattle.mrt_frame.specs.Cuts.{body_limit};
-    ghost use Rattle.mrt_body.specs.Plain.{Unit as ReplayUnit};
-    ghost use Rattle.mrt_body.specs.HeldBytes.{BytesMeet, unit_of_held};
+    ghost use Rattle.peer_units.specs.Plain.{Unit as ReplayUnit};
+    ghost use Rattle.peer_units.specs.HeldBytes.{BytesMeet, unit_of_held};
 
     ghost Value = { ReplayUnit };
 
@@ -30,7 +29,7 @@ impl<F: Unicast> Model for SessionUnit<F> {
 impl<F: Unicast> SessionUnit<F> {
     ghost use Rattle.std.specs.Prelude.{◌≡◌, ◌≤◌, length};
     ghost use Rattle.mrt_frame.specs.Cuts.{body_limit};
-    ghost use Rattle.mrt_body.specs.Units.{IsSmallUnit, payload_bytes};
+    ghost use Rattle.peer_units.specs.Payloads.{IsSmallUnit, payload_bytes};
 
     /// The unit's bytes, which are the end of the body.
     #[inline(always)]

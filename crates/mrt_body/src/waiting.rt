@@ -5,9 +5,9 @@ ghost use Rattle.mrt_body.specs.Units.{clear_unit};
 
 use crate::record_place::RecordAt;
 use crate::session_unit::SessionUnit;
-use crate::unit::{Payload, PeerKey, Unit};
 use bgp_prefix::Sequence;
 use bgp_update::Unicast;
+use peer_units::{Payload, PeerKey, Unit};
 use std::alloc::Global;
 use std::collections::BTreeSet;
 use std::marker::Model;
@@ -25,7 +25,7 @@ pub(crate) struct Waiting<F: Unicast> {
 
 impl<F: Unicast> Model for Waiting<F> {
     ghost use Rattle.std.specs.Prelude.{◌≡◌, ◌++◌, List, [], None, map, option_to_list};
-    ghost use Rattle.mrt_body.specs.Plain.{Unit as ReplayUnit};
+    ghost use Rattle.peer_units.specs.Plain.{Unit as ReplayUnit};
     ghost use Rattle.mrt_body.specs.Units.{clear_unit};
 
     ghost Value = { List ReplayUnit };

@@ -4,10 +4,10 @@ use Rattle.std.specs.Prelude.{codes, Option}
 use Rattle.std.specs.List.{flat_map}
 use Rattle.mrt_frame.proofs.Hexadecimal.{hex}
 use Rattle.bgp_update.specs.Families.{ipv4}
-use Rattle.mrt_body.specs.Choices.{all_units}
+use Rattle.peer_units.specs.Choices.{all_units}
 use Rattle.mrt_body.proofs.Dumps.{marker_16, session_four, session_two, plain_attributes, announcement_of, announcement_with}
 use Rattle.ip_text.specs.declared.address_form.AddressForm.TheVariants.{Full}
-use Rattle.rib_report.specs.Plain.{Layout, Request}
+use Rattle.report_request.specs.Plain.{Layout, Request}
 use Rattle.mrt_replay.specs.Reports.{report}
 
 -- the bytes of an UPDATE: the record's header, the session's fields, the message behind its marker

@@ -15,7 +15,7 @@ use Rattle.mrt_body.specs.Indexes.{index_in, index_head_at, peers_in, written_pe
 use Rattle.mrt_body.specs.RibRecords.{rib_in, rib_head_at, entry_at}
 use Rattle.mrt_body.specs.Bgp4mp.{session_at, session_peer_at, states_in}
 use Rattle.mrt_body.specs.Units.{found_in, found_at, body_kind_of, message_unit, states_unit, units_of, refused_of}
-use Rattle.mrt_body.specs.Events.{event_in, message_event_in, message_in}
+use Rattle.peer_units.specs.Events.{event_in, message_event_in, message_in}
 use Rattle.mrt_body.proofs.Dumps.{marker_16, session_four, plain_attributes, announcement, announcement_of, announcement_with, state_change, withdrawal, extended_announcement, peer_table, rib_with, rib_record}
 use Rattle.adj_rib.specs.Steps.{unit_steps, steps_of}
 use Rattle.adj_rib.specs.Tables.{table_of}
@@ -26,7 +26,7 @@ use Rattle.peer_tables.specs.Histories.{history_of, history_rows, watches_of}
 use Rattle.peer_tables.specs.Peers.{peers_of}
 use Rattle.peer_tables.specs.Tables.{tables_of}
 use Rattle.ip_text.specs.AddressTexts.{address_text}
-use Rattle.rib_report.specs.declared.request.Request.TheVariants.{Tables, Visibility, Origins, Churn, Match, Faults}
+use Rattle.report_request.specs.declared.request.Request.TheVariants.{Tables, Visibility, Origins, Churn, Match, Faults}
 use Rattle.mrt_replay.specs.Reports.{text, report}
 use Rattle.mrt_replay.proofs.Dumps.{update, head_four, by_second, by_third, by_other_hop, by_path_of, of_host_bits, of_three, withdrawn_and_announced, two_octet_path, longer_as4_path, with_aggregators, of_seven, withdrawal_of_seven, cut_identifier, rib_of_seven, reached_with, reached, reached_by_ipv6, reached_twice, unreached, row, AreReports}
 

@@ -8,11 +8,11 @@ use Rattle.std.proofs.lemmas.List.Elements.{filter_map-append}
 use Rattle.mrt_frame.specs.declared.error.ReplayError.{ReplayError}
 use Rattle.mrt_frame.specs.declared.error.ReplayError.TheVariants as errors
 use Rattle.mrt_frame.specs.Devices.{HasFailed}
-use Rattle.mrt_body.specs.Choices.{UnitSelection}
-use Rattle.mrt_body.specs.declared.unit.Damage.{Damage}
-use Rattle.mrt_body.specs.Plain.{Found}
-use Rattle.mrt_body.specs.declared.unit.Found.TheVariants as found
-use Rattle.mrt_body.specs.Plain.{Unit as ReplayUnit}
+use Rattle.peer_units.specs.Choices.{UnitSelection}
+use Rattle.peer_units.specs.declared.unit.Damage.{Damage}
+use Rattle.peer_units.specs.Plain.{Found}
+use Rattle.peer_units.specs.declared.unit.Found.TheVariants as found
+use Rattle.peer_units.specs.Plain.{Unit as ReplayUnit}
 use Rattle.mrt_body.specs.Units.{unit_of, damage_of, units_of, refused_of, records_of, aside_of, found_in, all_cuts, is_whole, is_aside}
 use Rattle.mrt_body.specs.ToCome.{UnitsState, TakesFound, NothingToCome, found_to_come, cuts_to_come, units_left, fresh_units}
 use Rattle.mrt_replay.specs.Replays.{HasTaken, HasTakenFiles, StopsFiles, StopsReplay}

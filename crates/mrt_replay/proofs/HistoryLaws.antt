@@ -4,11 +4,11 @@ use Rattle.std.specs.List.{flat_map}
 use Rattle.std.proofs.lemmas.List.{length-map}
 use Rattle.bgp_prefix.specs.Keys.{RouteKey}
 use Rattle.bgp_update.specs.declared.route.Route.{Route}
-use Rattle.mrt_body.specs.Choices.{UnitSelection}
-use Rattle.mrt_body.specs.Plain.{PrefixChoice}
-use Rattle.mrt_body.specs.declared.unit.Damage.{Damage}
-use Rattle.mrt_body.specs.declared.unit.PeerKey.{PeerKey}
-use Rattle.mrt_body.specs.Plain.{Unit as ReplayUnit}
+use Rattle.peer_units.specs.Choices.{UnitSelection}
+use Rattle.peer_units.specs.Plain.{PrefixChoice}
+use Rattle.peer_units.specs.declared.unit.Damage.{Damage}
+use Rattle.peer_units.specs.declared.unit.PeerKey.{PeerKey}
+use Rattle.peer_units.specs.Plain.{Unit as ReplayUnit}
 use Rattle.mrt_body.specs.Units.{units_of, refused_of}
 use Rattle.adj_rib.specs.Churns.{stopped}
 use Rattle.adj_rib.specs.Histories.{watch_of}
@@ -19,7 +19,7 @@ use Rattle.peer_tables.specs.Peers.{peers_of, units_of_peer}
 use Rattle.peer_tables.specs.Tables.{Seat, tables_of, chosen_seat, chosen_tables, all_faults, all_routes}
 use Rattle.peer_tables.proofs.RowLaws.{flat_map_twice}
 use Rattle.peer_tables.proofs.StandingLaws.{peer_seat, seats_from}
-use Rattle.rib_report.specs.Plain.{Layout, Request}
+use Rattle.report_request.specs.Plain.{Layout, Request}
 use Rattle.lane_deal.specs.declared.plan.Plan.{Plan}
 use Rattle.mrt_replay.specs.Reports.{listing_of, told_lines, text_by, text, report, listed_faults, AreRounds, RoundsOf}
 use Rattle.mrt_replay.specs.Tellings.{watch_faults, watch_routes}

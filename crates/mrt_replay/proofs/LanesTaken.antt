@@ -4,9 +4,9 @@ use Rattle.std.specs.Prelude.{option_to_list}
 use Rattle.std.specs.List.{filter_map}
 use Rattle.std.proofs.lemmas.List.{append-nil}
 use Rattle.std.proofs.lemmas.List.Elements.{filter_map-append}
-use Rattle.mrt_body.specs.declared.unit.Damage.{Damage}
-use Rattle.mrt_body.specs.Plain.{Found}
-use Rattle.mrt_body.specs.Plain.{Unit as ReplayUnit}
+use Rattle.peer_units.specs.declared.unit.Damage.{Damage}
+use Rattle.peer_units.specs.Plain.{Found}
+use Rattle.peer_units.specs.Plain.{Unit as ReplayUnit}
 use Rattle.mrt_body.specs.Units.{unit_of, damage_of}
 use Rattle.lane_deal.specs.Replayers.{ReplayerState, ReplayerStandsFor}
 use Rattle.lane_deal.specs.Rounds.{PlaysRound}

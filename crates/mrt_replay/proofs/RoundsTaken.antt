@@ -9,9 +9,9 @@ use Rattle.std.proofs.lemmas.List.{append-nil}
 use Rattle.std.proofs.lemmas.List.Elements.{filter_map-append}
 use Rattle.mrt_frame.specs.declared.error.ReplayError.{ReplayError}
 use Rattle.mrt_frame.specs.declared.error.ReplayError.TheVariants as errors
-use Rattle.mrt_body.specs.declared.unit.Damage.{Damage}
-use Rattle.mrt_body.specs.Plain.{Found}
-use Rattle.mrt_body.specs.Plain.{Unit as ReplayUnit}
+use Rattle.peer_units.specs.declared.unit.Damage.{Damage}
+use Rattle.peer_units.specs.Plain.{Found}
+use Rattle.peer_units.specs.Plain.{Unit as ReplayUnit}
 use Rattle.mrt_body.specs.Units.{unit_of, damage_of, is_whole, is_aside}
 use Rattle.mrt_body.specs.ToCome.{UnitsState, cuts_to_come, units_left}
 use Rattle.lane_deal.specs.declared.plan.Plan.{Plan}

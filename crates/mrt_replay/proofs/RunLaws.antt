@@ -10,17 +10,17 @@ use Rattle.mrt_frame.specs.Devices.{CountsFailure, HasFailed}
 use Rattle.mrt_frame.specs.Writes.{WritesFront}
 use Rattle.mrt_frame.specs.declared.error.ReplayError.{ReplayError}
 use Rattle.mrt_frame.specs.declared.error.ReplayError.TheVariants as errors
-use Rattle.mrt_body.specs.Choices.{UnitSelection}
-use Rattle.mrt_body.specs.declared.unit.Damage.{Damage}
-use Rattle.mrt_body.specs.Plain.{Unit as ReplayUnit}
+use Rattle.peer_units.specs.Choices.{UnitSelection}
+use Rattle.peer_units.specs.declared.unit.Damage.{Damage}
+use Rattle.peer_units.specs.Plain.{Unit as ReplayUnit}
 use Rattle.mrt_body.specs.Units.{units_of, refused_of}
 use Rattle.adj_rib.specs.Churns.{stopped}
 use Rattle.peer_tables.specs.declared.history.Listing.{Listing}
 use Rattle.peer_tables.specs.Peers.{peers_of}
-use Rattle.mrt_body.specs.Plain.{PrefixChoice}
+use Rattle.peer_units.specs.Plain.{PrefixChoice}
 use Rattle.peer_tables.specs.Tables.{Seat, TablesState, tables_of, chosen_seat, chosen_tables, all_faults, all_routes}
 use Rattle.rib_report.specs.Reports.{place_cmp, placed, in_place_order}
-use Rattle.rib_report.specs.Plain.{Layout, Request}
+use Rattle.report_request.specs.Plain.{Layout, Request}
 use Rattle.mrt_replay.specs.Reports.{lines_of, listing_of, text_by, text, report, listed_faults}
 use Rattle.std.proofs.KnownBytes.{Keeps-refl}
 use Rattle.mrt_replay.specs.Premises.{AreHonest}

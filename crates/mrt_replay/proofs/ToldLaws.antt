@@ -6,8 +6,8 @@ use Rattle.mrt_frame.specs.Devices.{HasFailed}
 use Rattle.mrt_frame.specs.declared.error.ReplayError.{ReplayError}
 use Rattle.mrt_frame.specs.declared.error.ReplayError.TheVariants as errors
 use Rattle.mrt_frame.specs.declared.read_state.ReadState.TheVariants.{Reading}
-use Rattle.mrt_body.specs.declared.unit.Damage.{Damage}
-use Rattle.mrt_body.specs.Plain.{Unit as ReplayUnit}
+use Rattle.peer_units.specs.declared.unit.Damage.{Damage}
+use Rattle.peer_units.specs.Plain.{Unit as ReplayUnit}
 use Rattle.mrt_body.specs.Units.{is_whole}
 use Rattle.mrt_body.specs.ToCome.{UnitsState, KeepsPlan, HasCause, cuts_to_come}
 use Rattle.adj_rib.specs.Churns.{stopped}

@@ -5,9 +5,9 @@ use Rattle.mrt_frame.specs.Devices.{HasFailed}
 use Rattle.mrt_frame.specs.Writes.{WritesFront}
 use Rattle.mrt_frame.specs.declared.error.ReplayError.{ReplayError}
 use Rattle.mrt_frame.specs.declared.error.ReplayError.TheVariants as errors
-use Rattle.mrt_body.specs.Choices.{UnitSelection}
+use Rattle.peer_units.specs.Choices.{UnitSelection}
 use Rattle.lane_deal.specs.declared.plan.Plan.{Plan}
-use Rattle.rib_report.specs.Plain.{Layout, Request}
+use Rattle.report_request.specs.Plain.{Layout, Request}
 use Rattle.mrt_replay.specs.declared.summary.Summary.{Summary}
 use Rattle.mrt_replay.specs.Reports.{report, IsSummary}
 use Rattle.mrt_replay.specs.Premises.{AreSound, AreWithin, AreHonest}

@@ -4,13 +4,13 @@ use Rattle.std.specs.List.{count_by, filter_map}
 use Rattle.mrt_frame.specs.Devices.{HasFailed}
 use Rattle.mrt_frame.specs.declared.error.ReplayError.{ReplayError}
 use Rattle.mrt_frame.specs.declared.error.ReplayError.TheVariants as errors
-use Rattle.mrt_body.specs.declared.unit.Damage.{Damage}
-use Rattle.mrt_body.specs.Plain.{Found}
-use Rattle.mrt_body.specs.Plain.{Unit as ReplayUnit}
+use Rattle.peer_units.specs.declared.unit.Damage.{Damage}
+use Rattle.peer_units.specs.Plain.{Found}
+use Rattle.peer_units.specs.Plain.{Unit as ReplayUnit}
 use Rattle.mrt_body.specs.Units.{units_of, refused_of, records_of, aside_of, unit_of, damage_of, is_whole, is_aside}
 use Rattle.mrt_body.specs.ToCome.{UnitsState, TakesFound, HasMoreRecords, found_to_come, cuts_to_come, units_left}
 use Rattle.peer_tables.specs.Tables.{tables_of, chosen_tables}
-use Rattle.mrt_body.specs.Choices.{UnitSelection}
+use Rattle.peer_units.specs.Choices.{UnitSelection}
 use Rattle.lane_deal.specs.declared.plan.Plan.{Plan}
 use Rattle.lane_deal.specs.Replayers.{ReplayerState, ReplayerStandsFor}
 use Rattle.lane_deal.specs.Rounds.{IsSettled}

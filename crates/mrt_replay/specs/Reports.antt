@@ -1,8 +1,8 @@
 -- The report of a request on the records of files, and what a run counts.
 use Rattle.std.specs.Prelude.{◌≡◌, ℕ, ◌+◌, ◌-◌, ◌*◌, ◌/◌, ◌≤◌, ◌||◌, not, is_some, Bool, List, [], Option, Some, None, length, if◌then◌else◌}
 use Rattle.std.specs.List.{flat_map}
-use Rattle.mrt_body.specs.declared.unit.Damage.{Damage}
-use Rattle.mrt_body.specs.Plain.{Unit as ReplayUnit}
+use Rattle.peer_units.specs.declared.unit.Damage.{Damage}
+use Rattle.peer_units.specs.Plain.{Unit as ReplayUnit}
 use Rattle.mrt_body.specs.Units.{units_of, refused_of, records_of, aside_of}
 use Rattle.adj_rib.specs.Churns.{stopped}
 use Rattle.peer_tables.specs.declared.history.Listed.{Listed}
@@ -11,14 +11,14 @@ use Rattle.peer_tables.specs.declared.history.Listing.{Listing}
 use Rattle.peer_tables.specs.Histories.{PeerWatch, RowState, history_rows, watches_of}
 use Rattle.peer_tables.specs.Peers.{peers_of}
 use Rattle.peer_tables.specs.Tables.{TablesState, tables_of, chosen_tables, all_routes}
-use Rattle.mrt_body.specs.Plain.{PrefixChoice}
+use Rattle.peer_units.specs.Plain.{PrefixChoice}
 use Rattle.rib_report.specs.Reports.{route_rows, match_rows, visibility_rows, origin_rows, seen_rows, churn_rows, watch_churns, peer_rows, fault_rows}
 use Rattle.rib_report.specs.Lines.{route_line, visibility_line, origin_line, seen_line, churn_line, peer_line, fault_line}
 use Rattle.rib_report.specs.HistoryLines.{history_line}
-use Rattle.mrt_body.specs.Choices.{UnitSelection, is_open}
+use Rattle.peer_units.specs.Choices.{UnitSelection, is_open}
 use Rattle.lane_deal.specs.declared.plan.Plan.{Plan}
-use Rattle.rib_report.specs.Plain.{Layout, Request}
-use Rattle.rib_report.specs.declared.request.Request.TheVariants as request
+use Rattle.report_request.specs.Plain.{Layout, Request}
+use Rattle.report_request.specs.declared.request.Request.TheVariants as request
 use Rattle.mrt_replay.specs.declared.summary.Summary.{Summary}
 
 -- from when on what happened is counted, if a second or prefixes are named: otherwise the tables counted it

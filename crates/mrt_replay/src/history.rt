@@ -9,9 +9,10 @@ use crate::told::{Told, tell};
 use adj_rib::RouteId;
 use bgp_prefix::PrefixMap;
 use bgp_update::Unicast;
-use mrt_body::{Remarks, Selection, Units};
+use mrt_body::{Remarks, Units};
 use mrt_frame::{ReplayError, Source};
 use peer_tables::{Listing, Watched};
+use peer_units::Selection;
 use std::alloc::Global;
 
 /// The result of replaying files into rows of what happened, and what was counted.

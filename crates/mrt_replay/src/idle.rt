@@ -3,8 +3,8 @@
 use adj_rib::RouteId;
 use bgp_prefix::PrefixMap;
 use bgp_update::Unicast;
-use mrt_body::PeerKey;
 use peer_tables::Watched;
+use peer_units::PeerKey;
 use rib_report::Tables;
 
 /// The most peers that are told by name.

@@ -8,7 +8,7 @@ ghost use Rattle.mrt_frame.specs.declared.error.ReplayError.TheVariants as error
 ghost use Rattle.lane_deal.specs.Plans.{IsPlan};
 ghost use Rattle.mrt_replay.specs.Headline.{IsPromised, run_on};
 ghost use Rattle.mrt_replay.specs.Reports.{counting_of, lines_of, listed_by, listing_of, told_lines};
-ghost use Rattle.rib_report.specs.Requests.{request_of};
+ghost use Rattle.report_request.specs.Requests.{request_of};
 
 use crate::history::{count_faults, count_routes, list_history};
 use crate::idle::{idle_of_tables, idle_of_watches};
@@ -19,13 +19,14 @@ use adj_rib::RouteId;
 use bgp_prefix::{Family, PrefixMap};
 use bgp_update::Unicast;
 use lane_deal::{Dealing, Gate, Plan};
-use mrt_body::{ChosenPrefixes, Damage, Selection};
 use mrt_frame::{ReplayError, Sink, Source};
 use peer_tables::{Listed, Listing, Watched};
+use peer_units::{ChosenPrefixes, Damage, Selection};
+use report_request::{LayoutOf, Request};
 use rib_report::{
-    LayoutOf, Request, Tables, WrittenAddress, churn, faults, list_tables, matches, origins, peers,
-    seen, visibility, watched_churn, write_churn, write_faults, write_history, write_origins,
-    write_peers, write_rows, write_seen, write_visibility,
+    Tables, WrittenAddress, churn, faults, list_tables, matches, origins, peers, seen, visibility,
+    watched_churn, write_churn, write_faults, write_history, write_origins, write_peers,
+    write_rows, write_seen, write_visibility,
 };
 use std::alloc::Global;
 use std::marker::Sync;

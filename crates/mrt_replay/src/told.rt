@@ -3,10 +3,10 @@
 ghost use Rattle.std.specs.Prelude.{◌≡◌, [], ◌∷◌, ◌++◌, IfErr, IfOk, List, OnOk, length, map};
 ghost use Rattle.std.specs.List.{filter_map};
 ghost use Rattle.mrt_body.specs.Units.{damage_of, unit_of};
-ghost use Rattle.mrt_body.specs.Plain.{PrefixChoice as Choice};
+ghost use Rattle.peer_units.specs.Plain.{PrefixChoice as Choice};
 ghost use Rattle.mrt_frame.specs.declared.read_state.ReadState.TheVariants.{Reading};
-ghost use Rattle.mrt_body.specs.declared.unit.Damage.{Damage as AnyDamage};
-ghost use Rattle.mrt_body.specs.Plain.{Unit as ReplayUnit};
+ghost use Rattle.peer_units.specs.declared.unit.Damage.{Damage as AnyDamage};
+ghost use Rattle.peer_units.specs.Plain.{Unit as ReplayUnit};
 ghost use Rattle.peer_tables.specs.declared.history.Listing.{Listing as AnyListing};
 ghost use Rattle.mrt_replay.specs.Replays.{HasTakenFiles, StopsFiles};
 ghost use Rattle.mrt_replay.specs.Tellings.{Tells};
@@ -14,9 +14,10 @@ ghost use Rattle.mrt_replay.specs.Tellings.{Tells};
 use adj_rib::RouteId;
 use bgp_prefix::{Memory, PrefixMap};
 use bgp_update::Unicast;
-use mrt_body::{ChosenPrefixes, Damage, Found, FoundOf, UnitRef, Units};
+use mrt_body::Units;
 use mrt_frame::{ReplayError, Source};
 use peer_tables::{HistoryRows, Listing, Watches};
+use peer_units::{ChosenPrefixes, Damage, Found, FoundOf, UnitRef};
 use std::alloc::Global;
 
 /// What a replay of files into rows leaves: the watches on all peers, the rows, the refusals, and how many units there

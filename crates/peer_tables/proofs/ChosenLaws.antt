@@ -1,7 +1,7 @@
 -- Where no prefix is named all routes are chosen.
 use Rattle.std.proofs.Common.{◌≡◌, true, ℕ, zero, suc, ◌+◌, ◌<◌, List, [], ◌∷◌, map, length, set, get_or, refl, sym, ap, ◌∙◌, arith}
-use Rattle.mrt_body.specs.Plain.{PrefixChoice}
-use Rattle.mrt_body.specs.Choices.{is_open}
+use Rattle.peer_units.specs.Plain.{PrefixChoice}
+use Rattle.peer_units.specs.Choices.{is_open}
 use Rattle.adj_rib.proofs.SessionLaws.{open_entries}
 use Rattle.peer_tables.specs.Tables.{Seat, TablesState, chosen_seat, chosen_tables}
 

@@ -7,7 +7,7 @@ use Rattle.std.proofs.lemmas.Cmp.{nat_eq_equiv}
 use Rattle.std.proofs.lemmas.List.Concat.{flat_map-append}
 use Rattle.std.proofs.lemmas.List.Sorted.{IsPermutation-trans, IsPermutation-map, IsPermutation-append_comm, IsPermutation-append_right}
 use Rattle.std.proofs.lemmas.Map.Keys.{IsDistinct-IsPermutation, IsStrictlyIncreasing-from_distinct}
-use Rattle.mrt_body.specs.declared.unit.Damage.{Damage}
+use Rattle.peer_units.specs.declared.unit.Damage.{Damage}
 use Rattle.peer_tables.specs.Tables.{Seat, IsCollected}
 
 abbrev pub flat : {X : Type 0} → List (List X) → List X

@@ -1,7 +1,7 @@
 -- What happened at some of the peers is what their units did.
 use Rattle.std.proofs.Common.{◌≡◌, Bool, true, false, cond, List, [], ◌∷◌, map, refl, sym, ap, ◌∙◌}
-use Rattle.mrt_body.specs.declared.unit.PeerKey.{PeerKey}
-use Rattle.mrt_body.specs.Plain.{Unit as ReplayUnit}
+use Rattle.peer_units.specs.declared.unit.PeerKey.{PeerKey}
+use Rattle.peer_units.specs.Plain.{Unit as ReplayUnit}
 use Rattle.adj_rib.specs.Plain.{Note}
 use Rattle.adj_rib.specs.Histories.{unit_notes}
 use Rattle.mrt_frame.specs.Positions.{flat_map_after}

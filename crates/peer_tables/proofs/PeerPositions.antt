@@ -6,11 +6,11 @@ use Rattle.std.proofs.lemmas.List.{append-nil}
 use Rattle.std.proofs.lemmas.Bool.{eq-eqb, and_from}
 use Rattle.std.proofs.Math.Bool.{or-true}
 use Rattle.std.proofs.lemmas.List.Folds.{list_any-append}
-use Rattle.mrt_body.specs.declared.unit.PeerAddr.{PeerAddr}
-use Rattle.mrt_body.specs.declared.unit.PeerAddr.TheVariants.{V4, V6}
-use Rattle.mrt_body.specs.declared.unit.PeerKey.{PeerKey}
-use Rattle.mrt_body.specs.contracts.unit.PeerAddrPartialEq.TheImpl as addr_impl
-use Rattle.mrt_body.specs.contracts.unit.PeerKeyPartialEq.TheImpl as key_impl
+use Rattle.peer_units.specs.declared.unit.PeerAddr.{PeerAddr}
+use Rattle.peer_units.specs.declared.unit.PeerAddr.TheVariants.{V4, V6}
+use Rattle.peer_units.specs.declared.unit.PeerKey.{PeerKey}
+use Rattle.peer_units.specs.contracts.unit.PeerAddrPartialEq.TheImpl as addr_impl
+use Rattle.peer_units.specs.contracts.unit.PeerKeyPartialEq.TheImpl as key_impl
 use Rattle.peer_tables.specs.Peers.{peer_eq, addr_eq}
 use Rattle.peer_tables.specs.Numbers.{AreApart, AreListed, NumbersPeer, number_in}
 use Rattle.peer_tables.proofs.ShareLaws.{same_peer}

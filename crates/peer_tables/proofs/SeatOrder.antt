@@ -7,7 +7,7 @@ use Rattle.std.specs.List.Sorted.{IsPermutation, IsStrictlyIncreasing, IsStrictl
 use Rattle.std.proofs.lemmas.Bool.{ltb-true}
 use Rattle.std.proofs.lemmas.List.Sorted.{Contains-permutation, IsPermutation-sym, IsPermutation-trans}
 use Rattle.std.proofs.lemmas.Map.Keys.{sorted_from_strictly_increasing}
-use Rattle.mrt_body.specs.declared.unit.Damage.{Damage}
+use Rattle.peer_units.specs.declared.unit.Damage.{Damage}
 use Rattle.adj_rib.proofs.SourceLaws.{item_cases, later_item}
 use Rattle.peer_tables.specs.Tables.{Seat, TablesState, IsCollected}
 

@@ -3,10 +3,10 @@ use Rattle.std.proofs.Common.{◌≡◌, Bool, true, false, cond, List, [], ◌�
 use Rattle.std.specs.List.{filter, list_any}
 use Rattle.std.proofs.lemmas.Bool.{and_parts, eqb-true}
 use Rattle.std.proofs.lemmas.Map.Views.{any-filter_same}
-use Rattle.mrt_body.specs.declared.unit.PeerAddr.{PeerAddr}
-use Rattle.mrt_body.specs.declared.unit.PeerAddr.TheVariants.{V4, V6}
-use Rattle.mrt_body.specs.declared.unit.PeerKey.{PeerKey}
-use Rattle.mrt_body.specs.Plain.{Unit as ReplayUnit}
+use Rattle.peer_units.specs.declared.unit.PeerAddr.{PeerAddr}
+use Rattle.peer_units.specs.declared.unit.PeerAddr.TheVariants.{V4, V6}
+use Rattle.peer_units.specs.declared.unit.PeerKey.{PeerKey}
+use Rattle.peer_units.specs.Plain.{Unit as ReplayUnit}
 use Rattle.adj_rib.proofs.Positions.{after_filter, filter_after}
 use Rattle.peer_tables.specs.Peers.{addr_eq, peer_eq, peers_of, units_of_peer}
 use Rattle.peer_tables.specs.Shares.{units_where}

@@ -1,8 +1,8 @@
 -- The units of some of the peers.
 use Rattle.std.specs.Prelude.{Bool, List}
 use Rattle.std.specs.List.{filter}
-use Rattle.mrt_body.specs.declared.unit.PeerKey.{PeerKey}
-use Rattle.mrt_body.specs.Plain.{Unit as ReplayUnit}
+use Rattle.peer_units.specs.declared.unit.PeerKey.{PeerKey}
+use Rattle.peer_units.specs.Plain.{Unit as ReplayUnit}
 
 -- the units of the peers that pass a test
 abbrev pub units_where : (PeerKey → Bool) → List ReplayUnit → List ReplayUnit

@@ -1,8 +1,8 @@
 -- The watches on all peers, and the rows of one unit, as code makes them.
 use Rattle.std.specs.Prelude.{◌≡◌, ℕ, List, [], ◌∷◌, ◌++◌, map, Option, Some, None, if◌then◌else◌}
 use Rattle.std.specs.List.{filter}
-use Rattle.mrt_body.specs.declared.unit.PeerKey.{PeerKey}
-use Rattle.mrt_body.specs.Plain.{Unit as ReplayUnit}
+use Rattle.peer_units.specs.declared.unit.PeerKey.{PeerKey}
+use Rattle.peer_units.specs.Plain.{Unit as ReplayUnit}
 use Rattle.adj_rib.specs.Plain.{Note}
 use Rattle.bgp_prefix.specs.Prefixes.{IpPrefix}
 use Rattle.adj_rib.specs.Routes.{IsNamed, route_at}
@@ -13,7 +13,7 @@ use Rattle.peer_tables.specs.declared.history.Listed.{Listed}
 use Rattle.peer_tables.specs.declared.history.Listing.{Listing}
 use Rattle.peer_tables.specs.declared.watches.Watched.{Watched}
 use Rattle.adj_rib.specs.Histories.{is_before}
-use Rattle.mrt_body.specs.Plain.{PrefixChoice}
+use Rattle.peer_units.specs.Plain.{PrefixChoice}
 use Rattle.peer_tables.specs.Histories.{PeerWatch, RowState, by_of, history_rows, is_asked, row_of, watches_of}
 
 -- a watch, as definitions see it

@@ -10,7 +10,7 @@ use crate::shared_peer::SharedPeer;
 use adj_rib::{Notes, RouteId, Routes, What, is_before};
 use bgp_prefix::{Family, Memory, Prefix, RouteKey};
 use bgp_update::{HashedRoute, RouteRef, Unicast};
-use mrt_body::{Payload, PayloadRef, PeerKey, UnitRef};
+use peer_units::{Payload, PayloadRef, PeerKey, UnitRef};
 use std::alloc::Global;
 use std::marker::Model;
 

@@ -2,13 +2,13 @@
 //! Nothing is computed.
 
 ghost use Rattle.std.specs.Prelude.{◌≡◌, IsPermutation, List, Bool, true};
-ghost use Rattle.mrt_body.specs.declared.unit.Damage.{Damage as ListedFault};
-ghost use Rattle.mrt_body.specs.Plain.{Unit as ReplayUnit};
+ghost use Rattle.peer_units.specs.declared.unit.Damage.{Damage as ListedFault};
+ghost use Rattle.peer_units.specs.Plain.{Unit as ReplayUnit};
 ghost use Rattle.peer_tables.specs.declared.tables.Gathered.{Gathered as LanesIn};
 ghost use Rattle.peer_tables.specs.Tables.{Seat, TablesState, IsCollected, tables_of};
 ghost use Rattle.peer_tables.specs.Gathers.{gathered_seats};
 ghost use Rattle.peer_tables.specs.Standing.{AreSeatsOf, StandFor};
-ghost use Rattle.mrt_body.specs.declared.unit.PeerKey.{PeerKey as AnyPeer};
+ghost use Rattle.peer_units.specs.declared.unit.PeerKey.{PeerKey as AnyPeer};
 ghost use Rattle.peer_tables.specs.Histories.{history_of, history_of_own, history_where};
 ghost use Rattle.peer_tables.specs.Peers.{peer_eq, units_of_peer, peers_of};
 ghost use Rattle.peer_tables.specs.Shares.{units_where};

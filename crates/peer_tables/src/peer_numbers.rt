@@ -6,7 +6,7 @@ ghost use Rattle.peer_tables.specs.Numbers.{NumbersPeer};
 ghost use Rattle.peer_tables.specs.Peers.{addr_eq, peer_eq};
 
 use bgp_prefix::Memory;
-use mrt_body::{PeerAddr, PeerKey};
+use peer_units::{PeerAddr, PeerKey};
 use std::alloc::Global;
 use std::collections::HashMap;
 use std::marker::Model;
@@ -32,8 +32,8 @@ pub struct Peers {
 impl Model for Peers {
     ghost use Rattle.std.specs.Prelude.{List};
     ghost use Rattle.std.specs.HashMap as hash;
-    ghost use Rattle.mrt_body.specs.contracts.unit.PeerKeyPartialEq.TheImpl as key_impl;
-    ghost use Rattle.mrt_body.specs.declared.unit.PeerKey.{PeerKey as Peer};
+    ghost use Rattle.peer_units.specs.contracts.unit.PeerKeyPartialEq.TheImpl as key_impl;
+    ghost use Rattle.peer_units.specs.declared.unit.PeerKey.{PeerKey as Peer};
     ghost use Rattle.peer_tables.specs.Numbers.{AreApart, AreListed};
 
     ghost Value = { List Peer };

@@ -3,7 +3,7 @@
 ghost use Rattle.std.specs.Prelude.{◌≡◌, IfOk};
 
 use bgp_prefix::Memory;
-use mrt_body::PeerKey;
+use peer_units::PeerKey;
 use std::alloc::Global;
 use std::marker::Model;
 use std::sync::Arc;
@@ -16,7 +16,7 @@ pub struct SharedPeer {
 
 impl Model for SharedPeer {
     ghost use Rattle.std.specs.Arc.{arc_value};
-    ghost use Rattle.mrt_body.specs.declared.unit.PeerKey.{PeerKey};
+    ghost use Rattle.peer_units.specs.declared.unit.PeerKey.{PeerKey};
 
     ghost Value = { PeerKey };
 

@@ -11,7 +11,7 @@ ghost use Rattle.peer_tables.specs.Seats.{seat_of};
 use adj_rib::{RouteId, Session};
 use bgp_prefix::{Memory, PrefixMap, Sequence};
 use bgp_update::Unicast;
-use mrt_body::{ChosenPrefixes, Damage, PeerKey};
+use peer_units::{ChosenPrefixes, Damage, PeerKey};
 use std::alloc::Global;
 use std::marker::Model;
 

@@ -2,9 +2,9 @@
 
 ghost use Rattle.std.specs.Prelude.{◌≡◌, [], ◌∷◌, ◌++◌, IfOk, List, OnErr, OnOk, Some, false, map, slice_get};
 ghost use Rattle.std.specs.List.{list_any};
-ghost use Rattle.mrt_body.specs.DecodedEvents.{event_of};
-ghost use Rattle.mrt_body.specs.Events.{event_in};
-ghost use Rattle.mrt_body.specs.Plain.{PrefixChoice as Choice};
+ghost use Rattle.peer_units.specs.DecodedEvents.{event_of};
+ghost use Rattle.peer_units.specs.Events.{event_in};
+ghost use Rattle.peer_units.specs.Plain.{PrefixChoice as Choice};
 ghost use Rattle.peer_tables.specs.Peers.{peer_eq};
 ghost use Rattle.peer_tables.specs.Histories.{watches_of};
 ghost use Rattle.peer_tables.specs.Watching.{TakesUnit, keys_in, watch_in};
@@ -15,7 +15,7 @@ use crate::shared_peer::SharedPeer;
 use adj_rib::{RouteId, Watch};
 use bgp_prefix::{Memory, Prefix, PrefixMap};
 use bgp_update::Unicast;
-use mrt_body::{ChosenPrefixes, DecodedEvents, EventRef, UnitRef};
+use peer_units::{ChosenPrefixes, DecodedEvents, EventRef, UnitRef};
 use std::alloc::Global;
 use std::marker::Model;
 

@@ -12,8 +12,9 @@ mod sizes;
 use bgp_update::Width;
 use fixtures::{bytes_of, message_of};
 use lines::next_of;
-use mrt_body::{Damage, Found, Payload, PeerAddr, Place, Selection, StateRule, Unit, Units};
+use mrt_body::Units;
 use mrt_frame::{Counted, Fault, ReplayError};
+use peer_units::{Damage, Found, Payload, PeerAddr, Place, Selection, StateRule, Unit};
 use std::alloc::Global;
 use std::process::Abort;
 

@@ -1,7 +1,7 @@
 //! Prefixes that are chosen, by rows and beside a scan of the choices.
 
 use bgp_prefix::{Memory, Prefix};
-use mrt_body::{ChosenPrefixes, PrefixChoice, Reach};
+use peer_units::{ChosenPrefixes, PrefixChoice, Reach};
 use std::alloc::Global;
 use std::process::Abort;
 use std::test::Fail;

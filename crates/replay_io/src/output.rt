@@ -6,7 +6,7 @@ ghost use Rattle.replay_io.specs.Devices.{report_contents};
 
 use crate::progress::Board;
 use mrt_frame::Counted;
-use rib_report::Request;
+use report_request::Request;
 use run_io::Headed;
 use std::io::{self, Stdout, Write};
 

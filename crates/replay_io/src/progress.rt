@@ -3,7 +3,7 @@
 use crate::counts::Counts;
 use command_line::{FileName, read_width};
 use lane_deal::{Gate, Idle};
-use mrt_body::Damage;
+use peer_units::Damage;
 use std::alloc::{AllocError, Global};
 use std::sync::atomic::{AtomicU64, Ordering};
 use std::thread::{sleep, yield_now};

@@ -2,13 +2,13 @@
 
 use crate::harness::{PLAN, full, replay, replay_readers};
 use adj_rib::RouteId;
-use bgp_prefix::Radix;
 use fixtures::{Dripping, THREE_PEERS, THREE_ROUTES, bytes_of};
 use lane_deal::{ByTurns, NoGate, Plan};
-use mrt_body::Selection;
 use mrt_frame::{Counted, ReplayError, Sink};
 use mrt_replay::{Summary, run, status};
-use rib_report::Request;
+use peer_units::Selection;
+use prefix_maps::Radix;
+use report_request::Request;
 use std::alloc::Global;
 use std::io::{self, ErrorKind, Write};
 use std::marker::Sync;

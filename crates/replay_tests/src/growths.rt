@@ -4,15 +4,16 @@
 
 use crate::harness::{PLAN, full};
 use adj_rib::RouteId;
-use bgp_prefix::{Flat, PrefixMap, Radix};
+use bgp_prefix::PrefixMap;
 use chunked_map::ChunkedMap;
 use command_line::{Asked, Usage, read_words};
 use fixtures::{THREE_PEERS, THREE_ROUTES, bytes_of};
 use lane_deal::{ByBlocks, ByList, ByTurns, Dealing, NoGate, Plan};
-use mrt_body::Selection;
 use mrt_frame::{Counted, ReplayError};
 use mrt_replay::run;
-use rib_report::Request;
+use peer_units::Selection;
+use prefix_maps::{Flat, Radix};
+use report_request::Request;
 use std::alloc::Global;
 use std::marker::Sync;
 use std::process::Abort;

@@ -1,15 +1,16 @@
 //! Runs rows that stand as text: what files hold, and what each report on them is.
 
 use adj_rib::RouteId;
-use bgp_prefix::{Flat, PrefixMap, Radix};
+use bgp_prefix::PrefixMap;
 use chunked_map::ChunkedMap;
 use command_line::{Asked, read_address, read_words};
 use fixtures::{Dripping, bytes_of};
 use lane_deal::{ByTurns, NoGate, Plan};
-use mrt_body::{ChosenPrefixes, PeerChoice, PrefixChoice, RibRule, Selection, Share, StateRule};
 use mrt_frame::{Counted, ReplayError, Source};
 use mrt_replay::{Summary, run, status};
-use rib_report::{AddressForm, AddressForms, Layout, Request};
+use peer_units::{ChosenPrefixes, PeerChoice, PrefixChoice, RibRule, Selection, Share, StateRule};
+use prefix_maps::{Flat, Radix};
+use report_request::{AddressForm, AddressForms, Layout, Request};
 use std::alloc::Global;
 use std::marker::Sync;
 use std::process::Abort;

@@ -2,11 +2,11 @@
 
 use crate::harness::{PLAN, replay, replay_readers, run_rows};
 use adj_rib::RouteId;
-use bgp_prefix::Radix;
 use fixtures::{Zeros, bytes_of};
 use lane_deal::Plan;
 use mrt_frame::{Counted, ReplayError};
-use rib_report::Request;
+use prefix_maps::Radix;
+use report_request::Request;
 use std::test::Fail;
 
 const COUNTS: &str = "

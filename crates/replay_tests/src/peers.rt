@@ -5,7 +5,7 @@ use adj_rib::RouteId;
 use bgp_prefix::Memory;
 use chunked_map::ChunkedMap;
 use lane_deal::Plan;
-use rib_report::Request;
+use report_request::Request;
 use std::alloc::Global;
 use std::test::Fail;
 

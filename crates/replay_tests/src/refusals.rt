@@ -4,7 +4,7 @@ use crate::harness::{PLAN, replay};
 use fixtures::{Refusing, THREE_PEERS, bytes_of};
 use lane_deal::Plan;
 use mrt_frame::ReplayError;
-use rib_report::Request;
+use report_request::Request;
 use std::test::Fail;
 
 /// By any number of workers.

@@ -12,14 +12,14 @@ use Rattle.bgp_update.specs.declared.route.Origin.TheVariants.{Igp, Incomplete}
 use Rattle.bgp_update.specs.declared.route.Route.{Route}
 use Rattle.bgp_update.specs.Families.{ipv4, ipv6}
 use Rattle.bgp_update.specs.Paths.{PathSegment}
-use Rattle.mrt_body.specs.declared.unit.PeerAddr.TheVariants.{V4, V6}
-use Rattle.mrt_body.specs.declared.unit.PeerKey.{PeerKey}
-use Rattle.mrt_body.specs.declared.unit.Damage.{Damage}
+use Rattle.peer_units.specs.declared.unit.PeerAddr.TheVariants.{V4, V6}
+use Rattle.peer_units.specs.declared.unit.PeerKey.{PeerKey}
+use Rattle.peer_units.specs.declared.unit.Damage.{Damage}
 use Rattle.adj_rib.specs.declared.churn.Churn.{Churn}
 use Rattle.peer_tables.specs.Tables.{Seat, TablesState}
 use Rattle.ip_text.specs.declared.address_form.AddressForm.TheVariants.{Full, Short}
 use Rattle.ip_text.specs.AddressTexts.{address_text}
-use Rattle.rib_report.specs.Plain.{AddressForms}
+use Rattle.report_request.specs.Plain.{AddressForms}
 use Rattle.rib_report.specs.Reports.{route_rows, match_rows, visibility_rows, origin_rows, seen_rows, churn_rows, peer_rows, fault_rows, in_place_order}
 use Rattle.rib_report.specs.Lines.{route_line, visibility_line, origin_line, seen_line, churn_line, peer_line, fault_line}
 

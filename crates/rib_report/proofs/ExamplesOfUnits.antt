@@ -14,11 +14,11 @@ use Rattle.bgp_update.specs.Keys.{written_key_at, keys_in, route_keys_in, key_at
 use Rattle.bgp_update.specs.Multiprotocol.{reach_in, reach_at, hop_at, unreach_in, next_hop_of, reached_keys, unreached_keys}
 use Rattle.bgp_update.specs.Attributes.{attribute_at, attributes_in, value_fault, route_from, entry_route, route_in}
 use Rattle.bgp_update.specs.Updates.{fields_in, said_update, update_in}
-use Rattle.mrt_body.specs.declared.unit.Damage.{Damage}
-use Rattle.mrt_body.specs.declared.unit.Payload.TheVariants.{Message}
-use Rattle.mrt_body.specs.declared.unit.PeerAddr.TheVariants as addr
-use Rattle.mrt_body.specs.Plain.{Unit as ReplayUnit}
-use Rattle.mrt_body.specs.Events.{message_in, message_event_in, event_in}
+use Rattle.peer_units.specs.declared.unit.Damage.{Damage}
+use Rattle.peer_units.specs.declared.unit.Payload.TheVariants.{Message}
+use Rattle.peer_units.specs.declared.unit.PeerAddr.TheVariants as addr
+use Rattle.peer_units.specs.Plain.{Unit as ReplayUnit}
+use Rattle.peer_units.specs.Events.{message_in, message_event_in, event_in}
 use Rattle.adj_rib.specs.Steps.{unit_steps, steps_of}
 use Rattle.adj_rib.specs.Tables.{table_of}
 use Rattle.adj_rib.specs.Churns.{outcomes_of, churn_of, damaged_of}
@@ -27,7 +27,7 @@ use Rattle.peer_tables.specs.Peers.{peers_of}
 use Rattle.peer_tables.specs.Tables.{tables_of}
 use Rattle.ip_text.specs.declared.address_form.AddressForm.TheVariants.{Full}
 use Rattle.ip_text.specs.AddressTexts.{address_text}
-use Rattle.rib_report.specs.Plain.{AddressForms}
+use Rattle.report_request.specs.Plain.{AddressForms}
 use Rattle.rib_report.specs.Reports.{route_rows, match_rows, visibility_rows, origin_rows, seen_rows, churn_rows, fault_rows}
 use Rattle.rib_report.specs.Lines.{route_line, visibility_line, origin_line, seen_line, churn_line, fault_line}
 

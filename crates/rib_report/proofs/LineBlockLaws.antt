@@ -10,7 +10,7 @@ use Rattle.peer_tables.specs.declared.tables.Seated.{Seated}
 use Rattle.peer_tables.specs.Tables.{Seat}
 use Rattle.peer_tables.specs.Seats.{seat_of}
 use Rattle.peer_tables.proofs.RowLaws.{flat_map_twice}
-use Rattle.rib_report.specs.Plain.{AddressForms}
+use Rattle.report_request.specs.Plain.{AddressForms}
 use Rattle.rib_report.specs.Reports.{entry_row, rows_of_seat}
 use Rattle.rib_report.specs.Lines.{route_line}
 use Rattle.rib_report.specs.Listings.{reached_lines, seat_lines, most_entries}

@@ -12,7 +12,7 @@ use Rattle.bgp_prefix.specs.Maps.{IsLongestMatch, HasNoMatch, paths_of}
 use Rattle.bgp_prefix.specs.Keys.{RouteKey}
 use Rattle.bgp_prefix.proofs.KeyLaws.{key_cmp_total, same_prefix, tied_same}
 use Rattle.bgp_update.specs.declared.route.Route.{Route}
-use Rattle.mrt_body.specs.declared.unit.PeerKey.{PeerKey}
+use Rattle.peer_units.specs.declared.unit.PeerKey.{PeerKey}
 use Rattle.rib_report.specs.Reports.{entry_row, path_row, matches_entry, yields, is_longest}
 use Rattle.rib_report.proofs.OriginLaws.{any_map}
 use Rattle.rib_report.proofs.VisibilityLaws.{own_itself}

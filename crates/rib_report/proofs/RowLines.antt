@@ -2,7 +2,7 @@
 use Rattle.std.proofs.Common.{◌≡◌, List, ℕ, ◌∷◌, ◌++◌, Option, Some, None, sym, ap, ◌∙◌, [], append_assoc}
 use Rattle.std.specs.Prelude.{codes, decimal}
 use Rattle.bgp_update.specs.declared.route.Route.{Route}
-use Rattle.rib_report.specs.Plain.{AddressForms}
+use Rattle.report_request.specs.Plain.{AddressForms}
 use Rattle.rib_report.specs.Fields.{line, field}
 use Rattle.rib_report.specs.Lines.{path_text, next_hop_text, origin_text, atomic_text, aggregator_text}
 use Rattle.rib_report.specs.LineParts.{line_end}

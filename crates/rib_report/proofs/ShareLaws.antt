@@ -7,8 +7,8 @@ use Rattle.std.proofs.lemmas.List.Elements.{filter-append}
 use Rattle.std.proofs.lemmas.List.Sums.{sum_by-cons, sum_by-append}
 use Rattle.bgp_prefix.specs.Keys.{RouteKey}
 use Rattle.bgp_update.specs.declared.route.Route.{Route}
-use Rattle.mrt_body.specs.declared.unit.Damage.{Damage}
-use Rattle.mrt_body.specs.declared.unit.PeerKey.{PeerKey}
+use Rattle.peer_units.specs.declared.unit.Damage.{Damage}
+use Rattle.peer_units.specs.declared.unit.PeerKey.{PeerKey}
 use Rattle.peer_tables.specs.Tables.{Seat, TablesState, all_faults}
 use Rattle.rib_report.specs.Rows.{TableRow}
 use Rattle.rib_report.specs.Reports.{entry_row, place_cmp, placed, in_place_order, fault_rows, share_of, rest_of}

@@ -4,9 +4,9 @@ use Rattle.std.specs.List.{flat_map, filter, filter_map, count_by}
 use Rattle.std.proofs.lemmas.List.Sums.{sum_by-cons}
 use Rattle.bgp_prefix.specs.Prefixes.{IpPrefix, prefix_cmp}
 use Rattle.bgp_prefix.specs.Ordered.{in_order}
-use Rattle.mrt_body.specs.declared.unit.Damage.{Damage}
-use Rattle.mrt_body.specs.declared.unit.PeerKey.{PeerKey}
-use Rattle.mrt_body.specs.Plain.{Unit as ReplayUnit}
+use Rattle.peer_units.specs.declared.unit.Damage.{Damage}
+use Rattle.peer_units.specs.declared.unit.PeerKey.{PeerKey}
+use Rattle.peer_units.specs.Plain.{Unit as ReplayUnit}
 use Rattle.adj_rib.specs.Sessions.{session_of}
 use Rattle.adj_rib.specs.Arrived.{arrivals_of}
 use Rattle.adj_rib.specs.Churns.{churn_of, damaged_of}

@@ -6,7 +6,7 @@ use Rattle.adj_rib.specs.declared.outcome.What.TheVariants.{New, Changed, Same, 
 use Rattle.peer_tables.specs.declared.history.By.{By}
 use Rattle.peer_tables.specs.declared.history.By.TheVariants.{Rib, Update, State}
 use Rattle.peer_tables.specs.Histories.{RowState}
-use Rattle.rib_report.specs.Plain.{AddressForms}
+use Rattle.report_request.specs.Plain.{AddressForms}
 use Rattle.rib_report.specs.Fields.{line, field, time_text}
 use Rattle.rib_report.specs.Lines.{peer_text, key_text, path_text, next_hop_text, origin_text, atomic_text, aggregator_text}
 

@@ -1,7 +1,6 @@
 pub mod Texts
 pub mod Fields
 pub mod Plain
-pub mod Requests
 pub mod Runs
 pub mod Merges
 pub mod Rows

@@ -3,7 +3,8 @@ use Rattle.std.specs.Prelude.{ℕ, List, [], ◌∷◌, ◌++◌, decimal}
 use Rattle.rib_report.specs.Fields.{line, field}
 use Rattle.bgp_prefix.specs.Keys.{RouteKey}
 use Rattle.bgp_update.specs.declared.route.Route.{Route}
-use Rattle.rib_report.specs.Plain.{AddressForms, ShownPeer}
+use Rattle.report_request.specs.Plain.{AddressForms}
+use Rattle.rib_report.specs.Plain.{ShownPeer}
 use Rattle.rib_report.specs.Lines.{peer_text, key_text, next_hop_text, origin_text, atomic_text, aggregator_text}
 
 -- a peer, a bar and a key

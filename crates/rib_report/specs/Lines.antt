@@ -16,13 +16,14 @@ use Rattle.bgp_update.specs.declared.route.Origin.{Origin}
 use Rattle.bgp_update.specs.declared.route.Origin.TheVariants.{Igp, Egp, Incomplete}
 use Rattle.bgp_update.specs.declared.route.Aggregator.{Aggregator}
 use Rattle.bgp_update.specs.Paths.{PathSegment}
-use Rattle.mrt_body.specs.declared.unit.PeerAddr.{PeerAddr}
-use Rattle.mrt_body.specs.declared.unit.PeerAddr.TheVariants.{V4, V6}
-use Rattle.mrt_body.specs.declared.unit.PeerKey.{PeerKey}
-use Rattle.mrt_body.specs.declared.unit.Place.{Place}
-use Rattle.mrt_body.specs.declared.unit.Damage.{Damage}
+use Rattle.peer_units.specs.declared.unit.PeerAddr.{PeerAddr}
+use Rattle.peer_units.specs.declared.unit.PeerAddr.TheVariants.{V4, V6}
+use Rattle.peer_units.specs.declared.unit.PeerKey.{PeerKey}
+use Rattle.peer_units.specs.declared.unit.Place.{Place}
+use Rattle.peer_units.specs.declared.unit.Damage.{Damage}
 use Rattle.ip_text.specs.declared.address_form.AddressForm.{AddressForm}
-use Rattle.rib_report.specs.Plain.{AddressForms, VisibilityRow, OriginRow, SeenRow}
+use Rattle.report_request.specs.Plain.{AddressForms}
+use Rattle.rib_report.specs.Plain.{VisibilityRow, OriginRow, SeenRow}
 use Rattle.rib_report.specs.Rows.{TableRow}
 use Rattle.rib_report.specs.declared.reports.churn.ChurnRow.{ChurnRow}
 use Rattle.rib_report.specs.declared.reports.peers.PeerRow.{PeerRow}

@@ -12,9 +12,9 @@ use Rattle.bgp_prefix.specs.Ordered.{in_order}
 use Rattle.bgp_prefix.specs.Keys.{RouteKey}
 use Rattle.bgp_update.specs.declared.route.Route.{Route}
 use Rattle.bgp_update.specs.Paths.{origin_as_of}
-use Rattle.mrt_body.specs.declared.unit.PeerKey.{PeerKey}
-use Rattle.mrt_body.specs.declared.unit.Place.{Place}
-use Rattle.mrt_body.specs.declared.unit.Damage.{Damage}
+use Rattle.peer_units.specs.declared.unit.PeerKey.{PeerKey}
+use Rattle.peer_units.specs.declared.unit.Place.{Place}
+use Rattle.peer_units.specs.declared.unit.Damage.{Damage}
 use Rattle.peer_tables.specs.Histories.{PeerWatch}
 use Rattle.peer_tables.specs.Tables.{Seat, TablesState, all_faults}
 use Rattle.rib_report.specs.Rows.{TableRow}

@@ -7,7 +7,7 @@ ghost use Rattle.ip_text.specs.Ipv6Texts.{ipv6_text};
 ghost use Rattle.ip_text.specs.AddressTexts.{address_text};
 ghost use Rattle.rib_report.specs.Lines.{addr_text, peer_text, prefix_text, identifier_text, key_text, next_hop_text, origin_text, aggregator_text, atomic_text, state_text};
 
-use crate::forms::{AddressForms, AddressFormsOf, ShownPeer, ShownPeerOf};
+use crate::shown_peer::{ShownPeer, ShownPeerOf};
 use bgp_prefix::{Prefix, RouteKey};
 use bgp_update::{Aggregator, FamilyMark, NextHop, Origin, Unicast};
 use ip_text::{
@@ -15,7 +15,8 @@ use ip_text::{
     format_number, format_short, format_six, format_text, format_three,
 };
 use itoa::Buffer;
-use mrt_body::PeerAddr;
+use peer_units::PeerAddr;
+use report_request::{AddressForms, AddressFormsOf};
 use std::marker::Model;
 
 /// A value with a text of limited length: a field of a line, several of them, or a part of one.

@@ -2,11 +2,11 @@
 //! without an order of work. Nothing is computed.
 
 ghost use Rattle.std.specs.Prelude.{◌≡◌, List, ◌≤◌, ◌+◌, ◌↔◌, ℕ, Bool, IsTrue, Option, Some, length, map};
-ghost use Rattle.mrt_body.specs.States.{AreByRule};
-ghost use Rattle.mrt_body.specs.declared.state_rule.StateRule.TheVariants.{Recorded};
-ghost use Rattle.mrt_body.specs.declared.unit.Damage.{Damage as ListedFault, Damage};
-ghost use Rattle.mrt_body.specs.declared.unit.PeerKey.{PeerKey as AnyPeer, PeerKey};
-ghost use Rattle.mrt_body.specs.Plain.{Unit as ReplayUnit};
+ghost use Rattle.peer_units.specs.States.{AreByRule};
+ghost use Rattle.peer_units.specs.declared.state_rule.StateRule.TheVariants.{Recorded};
+ghost use Rattle.peer_units.specs.declared.unit.Damage.{Damage as ListedFault, Damage};
+ghost use Rattle.peer_units.specs.declared.unit.PeerKey.{PeerKey as AnyPeer, PeerKey};
+ghost use Rattle.peer_units.specs.Plain.{Unit as ReplayUnit};
 ghost use Rattle.adj_rib.specs.Steps.{is_up};
 ghost use Rattle.peer_tables.specs.Peers.{units_of_peer};
 ghost use Rattle.peer_tables.specs.Tables.{TablesState, all_faults};

@@ -34,18 +34,16 @@
 
 mod buffer;
 mod field;
-mod forms;
 mod laws;
 mod line;
 mod merge;
 mod numbers;
 mod reports;
-mod request;
 mod route_line;
+mod shown_peer;
 mod text;
 mod write;
 
-pub use forms::{AddressForms, AddressFormsOf};
 pub use ip_text::{
     AddressForm, WrittenAddress, one_address_to_a_text, runs_are_first_and_longest,
     written_texts_spell_their_addresses,
@@ -59,6 +57,7 @@ pub use peer_tables::{
     By, Gathered, HistoryRows, Listed, Listing, Seated, Tables, collect, collected_stand_for_units,
     lanes_make_no_difference, tables_are_of_units,
 };
+pub use report_request::{AddressForms, AddressFormsOf};
 pub use reports::churn::{ChurnRow, churn, watched_churn, write_churn};
 pub use reports::faults::{faults, write_faults};
 pub use reports::history::write_history;
@@ -68,4 +67,3 @@ pub use reports::peers::{PeerRow, peers, write_peers};
 pub use reports::seen::{SeenRow, seen, write_seen};
 pub use reports::tables::{TableRow, list_tables, table_rows, write_rows};
 pub use reports::visibility::{VisibilityRow, visibility, write_visibility};
-pub use request::{Layout, LayoutOf, Request};

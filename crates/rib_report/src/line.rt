@@ -3,11 +3,11 @@
 ghost use Rattle.std.specs.Prelude.{◌≡◌, ℕ, ◌+◌, ◌<◌, List, length};
 ghost use Rattle.std.specs.List.{between, flat_map};
 ghost use Rattle.rib_report.specs.Texts.{Adds};
-ghost use Rattle.rib_report.specs.Plain.{AddressForms as Forms};
+ghost use Rattle.report_request.specs.Plain.{AddressForms as Forms};
 
-use crate::forms::AddressFormsOf;
 use crate::text::Text;
 use bgp_update::Unicast;
+use report_request::AddressFormsOf;
 
 /// The content of one line of a report on routes of a family.
 pub(crate) trait Line<F: Unicast> {

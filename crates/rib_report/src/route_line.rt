@@ -9,12 +9,12 @@ ghost use Rattle.rib_report.specs.LineParts.{line_beginning, line_end};
 
 use crate::buffer::{put, put_attributes, put_peer_and_key};
 use crate::field::{Atomic, Byte, Field, PeerText, ShownKey, format_next_hop};
-use crate::forms::AddressFormsOf;
 use crate::numbers::put_segment_numbers;
 use crate::text::Text;
 use bgp_prefix::{Prefix, RouteKey};
 use bgp_update::{PackedSegment, PackedSegments, RouteRef, SegmentKind, Unicast};
 use ip_text::{DecimalTable, WrittenAddress, format_byte};
+use report_request::AddressFormsOf;
 
 /// Returns the most bytes of what a line begins with, and one more.
 #[inline(always)]

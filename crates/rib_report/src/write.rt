@@ -5,11 +5,11 @@ ghost use Rattle.std.specs.List.{flat_map};
 ghost use Rattle.rib_report.specs.Texts.{IsOutput};
 
 use crate::buffer::TextBuffer;
-use crate::forms::AddressFormsOf;
 use crate::line::RowList;
 use crate::text::{TextWriter, finish};
 use bgp_update::Unicast;
 use mrt_frame::{ReplayError, Sink};
+use report_request::AddressFormsOf;
 
 /// How many rows are prefetched together before their lines are written. Routes lie far apart in memory. Reads
 /// that don't wait for one another overlap, so the lines are then written from the processor's cache.

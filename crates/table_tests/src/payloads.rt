@@ -3,7 +3,7 @@
 use bgp_prefix::Memory;
 use bgp_update::{FamilyMark, Width};
 use fixtures::message_of;
-use mrt_body::{Payload, PayloadBytes};
+use peer_units::{Payload, PayloadBytes};
 use std::alloc::Global;
 
 /// The message in a named record of four-octet AS numbers.

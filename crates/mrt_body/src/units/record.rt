@@ -2,10 +2,11 @@
 
 ghost use Rattle.std.specs.Prelude.{◌≡◌, ◌<◌, ◌≤◌, ◌+◌, ◌++◌, ◌∷◌, Bool, [], IfOk, IfErr, OnOk, false, length};
 ghost use Rattle.mrt_frame.specs.Cuts.{body_limit};
-ghost use Rattle.mrt_body.specs.declared.unit.Found.TheVariants as found_spec;
-ghost use Rattle.mrt_body.specs.Units.{IsSmallUnit, alone, clears_if, found_units, refused_at, selected_units, time_of, units_or_none};
+ghost use Rattle.peer_units.specs.declared.unit.Found.TheVariants as found_spec;
+ghost use Rattle.mrt_body.specs.Units.{alone, clears_if, found_units, refused_at, selected_units, time_of, units_or_none};
+ghost use Rattle.peer_units.specs.Payloads.{IsSmallUnit};
 ghost use Rattle.mrt_body.specs.RibDumps.{dumps_with, heard_of, may_begin};
-ghost use Rattle.mrt_body.specs.Selections.{is_selected};
+ghost use Rattle.peer_units.specs.Selections.{is_selected};
 ghost use Rattle.mrt_body.specs.ToCome.{TakesRecord, as_found, refusals};
 ghost use Rattle.mrt_body.specs.declared.body_kind.BodyKind.TheVariants as content_spec;
 ghost use Rattle.mrt_body.specs.Readings.{GivesFew, WantsMemory, StaysHere};
@@ -17,14 +18,12 @@ use crate::peer_index::peers_in;
 use crate::record_place::RecordAt;
 use crate::rib_dumps::RibDumps;
 use crate::rib_reader::Index;
-use crate::rib_rule::RibRule;
-use crate::selection::Selection;
 use crate::session_unit::SessionUnit;
-use crate::unit::Damage;
 use crate::waiting::Waiting;
 use bgp_prefix::{Memory, Sequence};
 use bgp_update::{AttrError, Unicast};
 use mrt_frame::{Fault, ReadState, ReplayError};
+use peer_units::{Damage, RibRule, Selection};
 use std::alloc::Global;
 
 impl<F: Unicast> Units<F> {
@@ -71,7 +70,7 @@ impl<F: Unicast> Units<F> {
         ensures same { self.new ≡ self.old }
     {
         if self.selection.is_open() {
-            return Ok(self.selection.takes_unread(unit));
+            return Ok(self.selection.takes_unread(&unit.lend()));
         }
         self.selects_by_prefix(alloc, unit)
     }
@@ -82,7 +81,8 @@ impl<F: Unicast> Units<F> {
         ensures selected { IfOk result (λ selected. selected ≡ is_selected self.old.selection unit.now) }
         ensures same { self.new ≡ self.old }
     {
-        self.selection.selects(alloc, &mut self.decoded, unit)
+        self.selection
+            .selects(alloc, &mut self.decoded, &unit.lend())
     }
 
     /// Keeps a unit to be returned if it is selected, or returns the refusal of its record.

@@ -3,6 +3,7 @@
 use super::keys::{Tried, entries, paths, prefix};
 use bgp_prefix::*;
 use chunked_map::ChunkedMap;
+use prefix_maps::{Flat, Radix};
 use std::alloc::Global;
 use std::process::Abort;
 use std::test::Fail;

@@ -2,8 +2,9 @@
 //! length.
 
 use super::keys::prefix;
-use bgp_prefix::{Family, Flat, Ipv6, Prefix, PrefixMap, Radix, RouteKey, shared_len};
+use bgp_prefix::{Family, Ipv6, Prefix, PrefixMap, RouteKey, shared_len};
 use chunked_map::ChunkedMap;
+use prefix_maps::{Flat, Radix};
 use std::alloc::Global;
 use std::process::Abort;
 

@@ -3,6 +3,7 @@
 use super::keys::{Tried, key_at, number_at};
 use bgp_prefix::*;
 use chunked_map::ChunkedMap;
+use prefix_maps::Radix;
 use std::alloc::Global;
 use std::process::Abort;
 use std::test::Fail;

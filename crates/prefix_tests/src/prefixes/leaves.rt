@@ -2,6 +2,7 @@
 
 use super::keys::{Tried, entries, key_at, number_at, paths};
 use bgp_prefix::*;
+use prefix_maps::Radix;
 use std::alloc::Global;
 use std::process::Abort;
 use std::test::Fail;

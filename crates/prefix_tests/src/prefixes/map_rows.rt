@@ -2,8 +2,9 @@
 //! are 0.
 
 use super::keys::{Tried, number_at, prefix};
-use bgp_prefix::{Flat, Ipv6, Prefix, PrefixMap, Radix, RouteKey};
+use bgp_prefix::{Ipv6, Prefix, PrefixMap, RouteKey};
 use chunked_map::ChunkedMap;
+use prefix_maps::{Flat, Radix};
 use std::alloc::Global;
 use std::process::Abort;
 

@@ -2,8 +2,9 @@
 
 use super::lines::{Reading, lines_of, next_of};
 use fixtures::{Dripping, THREE_PEERS, Zeros, bytes_of};
-use mrt_body::{Found, Selection, Units};
+use mrt_body::Units;
 use mrt_frame::{Counted, Failures, ReplayError, Source};
+use peer_units::{Found, Selection};
 use std::alloc::Global;
 use std::io::ErrorKind;
 use std::process::Abort;

@@ -3,8 +3,9 @@
 use super::lines::next_of;
 use super::rows::run_rows;
 use fixtures::bytes_of;
-use mrt_body::{Found, Payload, RibRule, Selection, Units};
+use mrt_body::Units;
 use mrt_frame::{Counted, ReplayError};
+use peer_units::{Found, Payload, RibRule, Selection};
 use std::alloc::Global;
 use std::process::Abort;
 use std::test::Fail;

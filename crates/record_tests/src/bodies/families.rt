@@ -3,8 +3,9 @@
 use bgp_prefix::{Ipv6, Prefix};
 use bgp_update::NextHop;
 use fixtures::bytes_of;
-use mrt_body::{Event, Found, Selection, Units, event};
+use mrt_body::Units;
 use mrt_frame::Counted;
+use peer_units::{Event, Found, Selection, event};
 
 /// An index table, a RIB record of 10.0.0.0/8, and one of 2001:db8::/32 with the next hop 2001:db8::9.
 const BOTH_FAMILIES: &str =

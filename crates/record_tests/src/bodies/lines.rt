@@ -1,7 +1,8 @@
 //! What files give, as text.
 
-use mrt_body::{Found, Lent, Payload, PeerAddr, Place, Selection, Unit, Units};
+use mrt_body::{Lent, Units};
 use mrt_frame::{ReplayError, Source};
+use peer_units::{Found, Payload, PeerAddr, Place, Selection, Unit};
 use std::alloc::Global;
 use std::process::Abort;
 

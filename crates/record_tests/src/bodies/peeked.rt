@@ -3,8 +3,9 @@
 use super::lines::{lent_first, next_of};
 use super::{announcement_of_subtype, expect_entry, expect_message, expect_refused, expect_states};
 use fixtures::{bytes_of, message_of};
-use mrt_body::{Found, Lent, Selection, StateRule, Units};
+use mrt_body::{Lent, Units};
 use mrt_frame::{Counted, Fault};
+use peer_units::{Found, Selection, StateRule};
 use std::alloc::Global;
 use std::process::Abort;
 

@@ -2,8 +2,9 @@
 
 use super::lines::next_of;
 use fixtures::bytes_of;
-use mrt_body::{Marked, Remarks, Selection, Units};
+use mrt_body::{Marked, Remarks, Units};
 use mrt_frame::Counted;
+use peer_units::Selection;
 use std::alloc::Global;
 use std::process::Abort;
 

@@ -3,10 +3,10 @@
 use super::lines::{Reading, lines_of};
 use bgp_prefix::Prefix;
 use fixtures::bytes_of;
-use mrt_body::{
+use mrt_frame::Counted;
+use peer_units::{
     ChosenPrefixes, PeerAddr, PeerChoice, PrefixChoice, Reach, RibRule, Selection, Share,
 };
-use mrt_frame::Counted;
 use std::alloc::Global;
 use std::process::Abort;
 

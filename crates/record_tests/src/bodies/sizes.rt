@@ -2,8 +2,9 @@
 
 use super::lines::{Reading, lines_of, next_of};
 use fixtures::{body_of, bytes_of};
-use mrt_body::{Found, Payload, Selection, Units};
+use mrt_body::Units;
 use mrt_frame::{Counted, ReplayError, Source};
+use peer_units::{Found, Payload, Selection};
 use std::alloc::Global;
 use std::process::Abort;
 

@@ -11,16 +11,17 @@ ghost use Rattle.rib_report.specs.Texts.{IsOutput};
 
 use crate::buffer::put;
 use crate::field::{Byte, Joined, time_field};
-use crate::forms::{AddressFormsOf, ShownPeer};
 use crate::line::Line;
+use crate::shown_peer::ShownPeer;
 use crate::text::Text;
 use crate::write::write_lines;
 use adj_rib::{Churn, RouteId};
 use bgp_prefix::{Memory, PrefixMap};
 use bgp_update::Unicast;
-use mrt_body::PeerKey;
 use mrt_frame::{ReplayError, Sink};
 use peer_tables::{Tables, Watched};
+use peer_units::PeerKey;
+use report_request::AddressFormsOf;
 use std::alloc::Global;
 
 /// What a peer's units did.

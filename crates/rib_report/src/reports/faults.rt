@@ -12,7 +12,6 @@ ghost use Rattle.rib_report.specs.Texts.{IsOutput};
 
 use crate::buffer::put;
 use crate::field::{Byte, Field, Joined, entry_field};
-use crate::forms::{AddressForms, AddressFormsOf};
 use crate::line::Line;
 use crate::text::Text;
 use crate::write::write_lines;
@@ -20,9 +19,10 @@ use adj_rib::RouteId;
 use bgp_prefix::{Memory, PrefixMap};
 use bgp_update::Unicast;
 use ip_text::{AddressForm, DecimalTable, format_text};
-use mrt_body::Damage;
 use mrt_frame::{Fault, ReplayError, Sink};
 use peer_tables::Tables;
+use peer_units::Damage;
+use report_request::{AddressForms, AddressFormsOf};
 use std::alloc::Global;
 
 /// The refusals, and then each peer's faults.

@@ -9,9 +9,9 @@ ghost use Rattle.rib_report.specs.Texts.{IsOutput};
 
 use crate::buffer::put;
 use crate::field::{Field, Microseconds, ShownKey};
-use crate::forms::{AddressFormsOf, ShownPeer};
 use crate::line::{Line, RowList};
 use crate::route_line::put_route;
+use crate::shown_peer::ShownPeer;
 use crate::text::Text;
 use crate::write::write_lines;
 use adj_rib::What;
@@ -19,6 +19,7 @@ use bgp_prefix::Prefix;
 use ip_text::{DecimalTable, WrittenAddress, format_text};
 use mrt_frame::{ReplayError, Sink};
 use peer_tables::{By, HistoryRow, HistoryRows};
+use report_request::AddressFormsOf;
 
 impl Field for What {
     ghost text_of = { what_text };

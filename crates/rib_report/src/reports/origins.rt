@@ -11,7 +11,6 @@ ghost use Rattle.peer_tables.specs.Seats.{seat_of};
 
 use crate::buffer::put;
 use crate::field::{Byte, ShownPrefix};
-use crate::forms::AddressFormsOf;
 use crate::line::Line;
 use crate::merge::{Listed, Mergeable, list_peers};
 use crate::numbers::put_numbers;
@@ -23,6 +22,7 @@ use bgp_update::{RouteRef, Unicast};
 use ip_text::WrittenAddress;
 use mrt_frame::{ReplayError, Sink};
 use peer_tables::{Seated, Tables};
+use report_request::AddressFormsOf;
 use std::alloc::Global;
 use std::cmp::Ordering;
 use std::marker::{Send, Sync};

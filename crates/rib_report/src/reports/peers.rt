@@ -12,16 +12,17 @@ ghost use Rattle.rib_report.specs.Texts.{IsOutput};
 
 use crate::buffer::put;
 use crate::field::{Byte, Joined, SessionUp, entry_field, time_field};
-use crate::forms::{AddressFormsOf, ShownPeer};
 use crate::line::Line;
+use crate::shown_peer::ShownPeer;
 use crate::text::Text;
 use crate::write::write_lines;
 use adj_rib::RouteId;
 use bgp_prefix::{Memory, PrefixMap};
 use bgp_update::Unicast;
-use mrt_body::{PeerKey, Place};
 use mrt_frame::{ReplayError, Sink};
 use peer_tables::{Seated, Tables};
+use peer_units::{PeerKey, Place};
+use report_request::AddressFormsOf;
 use std::alloc::Global;
 
 /// A peer as its units leave it.

@@ -13,7 +13,6 @@ ghost use Rattle.rib_report.specs.Texts.{IsOutput};
 
 use crate::buffer::put;
 use crate::field::{Byte, Joined, ShownPrefix};
-use crate::forms::AddressFormsOf;
 use crate::line::Line;
 use crate::merge::{Listed, Mergeable, list_peers};
 use crate::text::Text;
@@ -24,6 +23,7 @@ use bgp_update::Unicast;
 use ip_text::WrittenAddress;
 use mrt_frame::{ReplayError, Sink};
 use peer_tables::{Seated, Tables};
+use report_request::AddressFormsOf;
 use std::alloc::Global;
 use std::cmp::Ordering;
 use std::marker::{Send, Sync};

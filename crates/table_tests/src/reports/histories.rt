@@ -3,9 +3,10 @@
 use super::peers::peer_of;
 use crate::payloads::message_in;
 use adj_rib::{RouteId, What};
-use bgp_prefix::{Flat, Memory, Prefix, PrefixMap, Radix, RouteKey};
-use mrt_body::{ChosenPrefixes, Payload, PeerKey, Place, StateRule, Unit};
+use bgp_prefix::{Memory, Prefix, PrefixMap, RouteKey};
 use peer_tables::{By, HistoryRow, HistoryRows, Listed, Listing, Watches};
+use peer_units::{ChosenPrefixes, Payload, PeerKey, Place, StateRule, Unit};
+use prefix_maps::{Flat, Radix};
 use std::alloc::Global;
 use std::process::Abort;
 

@@ -4,8 +4,8 @@ use crate::churns::churn_of;
 use bgp_prefix::{Prefix, RouteKey, Sequence};
 use bgp_update::{NextHop, PackedRoute, Width, read_attrs};
 use fixtures::bytes_of;
-use mrt_body::{Damage, PeerAddr, PeerKey, Place};
 use mrt_frame::{Counted, Fault};
+use peer_units::{Damage, PeerAddr, PeerKey, Place};
 use rib_report::{
     AddressForm, AddressForms, ChurnRow, OriginRow, SeenRow, TableRow, VisibilityRow, write_churn,
     write_faults, write_origins, write_rows, write_seen, write_visibility,

@@ -8,7 +8,7 @@ use crate::payloads::message_in;
 use adj_rib::{RouteId, Session};
 use bgp_prefix::{PrefixMap, RouteKey, Sequence};
 use bgp_update::FamilyMark;
-use mrt_body::{Damage, Payload, PayloadBytes, PeerAddr, PeerKey, Place, Unit};
+use peer_units::{Damage, Payload, PayloadBytes, PeerAddr, PeerKey, Place, Unit};
 use rib_report::{Gathered, Seated, Tables, collect};
 use std::alloc::Global;
 use std::process::Abort;

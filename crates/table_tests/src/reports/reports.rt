@@ -2,9 +2,10 @@
 
 use super::peers::{Peers, tables_of};
 use adj_rib::RouteId;
-use bgp_prefix::{Flat, PrefixMap, Radix};
-use mrt_body::{Damage, Place};
+use bgp_prefix::PrefixMap;
 use mrt_frame::{Counted, Fault, ReplayError, Sink};
+use peer_units::{Damage, Place};
+use prefix_maps::{Flat, Radix};
 use rib_report::{
     AddressForm, AddressForms, Tables, churn, faults, list_tables, matches, origins, peers, seen,
     table_rows, visibility, write_churn, write_faults, write_origins, write_peers, write_rows,

@@ -3,10 +3,11 @@
 use super::peers::{entry_of, tables_of_sessions};
 use super::reports::full;
 use adj_rib::{RouteId, Session};
-use bgp_prefix::{Flat, Memory, Prefix, PrefixMap, Radix, RouteKey};
+use bgp_prefix::{Memory, Prefix, PrefixMap, RouteKey};
 use fixtures::bytes_of;
-use mrt_body::Unit;
 use mrt_frame::Counted;
+use peer_units::Unit;
+use prefix_maps::{Flat, Radix};
 use rib_report::{Tables, seen, write_seen};
 use std::alloc::Global;
 use std::process::Abort;

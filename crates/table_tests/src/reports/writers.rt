@@ -3,8 +3,9 @@
 use super::peers::{Peers, tables_of};
 use super::reports::{REFUSED, Report, full, write_report};
 use adj_rib::RouteId;
-use bgp_prefix::{Memory, Prefix, Radix};
+use bgp_prefix::{Memory, Prefix};
 use mrt_frame::{Counted, Failures, ReplayError};
+use prefix_maps::Radix;
 use rib_report::{Tables, VisibilityRow, write_visibility};
 use std::alloc::{AllocError, Global};
 use std::io::{self, ErrorKind, Write};

@@ -3,9 +3,10 @@
 use super::units::{take_named, unit_of};
 use crate::churns::churn_of;
 use adj_rib::{Churn, Notes, RouteId, Session, Watch, What};
-use bgp_prefix::{Flat, Memory, Prefix, PrefixMap, Radix, RouteKey};
+use bgp_prefix::{Memory, Prefix, PrefixMap, RouteKey};
 use bgp_update::RouteRef;
-use mrt_body::{ChosenPrefixes, DecodedEvents};
+use peer_units::{ChosenPrefixes, DecodedEvents};
+use prefix_maps::{Flat, Radix};
 use std::alloc::Global;
 use std::process::Abort;
 

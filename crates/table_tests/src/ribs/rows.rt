@@ -3,8 +3,9 @@
 use super::units::take_named;
 use crate::churns::churn_of;
 use adj_rib::{RouteId, Session};
-use bgp_prefix::{Flat, PrefixMap, Radix};
+use bgp_prefix::PrefixMap;
 use bgp_update::NextHop;
+use prefix_maps::{Flat, Radix};
 use std::alloc::Global;
 use std::process::Abort;
 

@@ -2,11 +2,12 @@
 
 use super::units::{entry_unit, take_named, unit_of};
 use adj_rib::{RouteId, Session};
-use bgp_prefix::{Flat, Memory, PrefixMap, Radix};
+use bgp_prefix::{Memory, PrefixMap};
 use bgp_update::{AttrError, NextHop};
 use fixtures::bytes_of;
-use mrt_body::{PayloadBytes, Unit, event};
 use mrt_frame::Fault;
+use peer_units::{PayloadBytes, Unit, event};
+use prefix_maps::{Flat, Radix};
 use std::alloc::Global;
 use std::process::Abort;
 use std::test::Fail;

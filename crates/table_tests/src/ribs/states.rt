@@ -2,8 +2,9 @@
 
 use super::units::{state_change, take_named};
 use adj_rib::{RouteId, Session};
-use bgp_prefix::{Flat, PrefixMap};
-use mrt_body::StateRule;
+use bgp_prefix::PrefixMap;
+use peer_units::StateRule;
+use prefix_maps::Flat;
 use std::alloc::Global;
 use std::process::Abort;
 

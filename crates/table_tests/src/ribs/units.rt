@@ -5,7 +5,7 @@ use adj_rib::{RouteId, Session};
 use bgp_prefix::{Memory, Prefix, PrefixMap, RouteKey};
 use bgp_update::FamilyMark;
 use fixtures::bytes_of;
-use mrt_body::{Payload, PayloadBytes, PeerAddr, PeerKey, Place, StateRule, Unit};
+use peer_units::{Payload, PayloadBytes, PeerAddr, PeerKey, Place, StateRule, Unit};
 use std::alloc::Global;
 use std::process::Abort;
 

@@ -1,5 +1,5 @@
 use Rattle.std.proofs.Common.{◌≡◌, List, length, take}
-use Rattle.mrt_body.specs.Plain.{Unit as ReplayUnit}
+use Rattle.peer_units.specs.Plain.{Unit as ReplayUnit}
 use Rattle.lane_deal.specs.Schedules.{after_turns, start}
 use Rattle.lane_deal.specs.ShownLanes.{LanesShow}
 use Rattle.lane_deal.proofs.schedule.apply_all.Given as goal

@@ -1,6 +1,6 @@
 use Rattle.std.proofs.Common.{◌-◌, ◌≡◌, ◌≤◌, ◌^◌, List, sym, ap, ◌∙◌, length, map, arith}
 use Rattle.std.proofs.lemmas.List.{length-map}
-use Rattle.mrt_body.specs.Plain.{PrefixChoice}
+use Rattle.peer_units.specs.Plain.{PrefixChoice}
 use Rattle.mrt_body.specs.Units.{units_of}
 use Rattle.peer_tables.specs.Histories.{history_rows, watches_of}
 use Rattle.mrt_replay.specs.Tellings.{Tells}

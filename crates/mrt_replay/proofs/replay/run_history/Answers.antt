@@ -9,7 +9,7 @@ use Rattle.peer_tables.specs.Histories.{watches_of}
 use Rattle.peer_tables.specs.Watching.{watch_in}
 use Rattle.mrt_replay.specs.Headline.{run_on}
 use Rattle.mrt_replay.specs.Reports.{told_lines}
-use Rattle.rib_report.specs.Requests.{request_of}
+use Rattle.report_request.specs.Requests.{request_of}
 use Rattle.mrt_replay.proofs.HeadlineLaws.{stopped}
 use Rattle.mrt_replay.proofs.HistoryLaws.{history_is_report, no_rounds, damaged_told, routes_told, peers_told}
 use Rattle.mrt_replay.proofs.RunLaws.{flush_failed, flush_succeeded, flush_unfailed, front_whole, stops_writing}

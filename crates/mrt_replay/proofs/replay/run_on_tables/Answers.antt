@@ -8,7 +8,7 @@ use Rattle.mrt_replay.specs.Headline.{run_on}
 use Rattle.mrt_replay.proofs.HeadlineLaws.{stopped}
 use Rattle.mrt_replay.proofs.HistoryLaws.{rounds_of_tables}
 use Rattle.mrt_replay.specs.Reports.{lines_of}
-use Rattle.rib_report.specs.Requests.{request_of}
+use Rattle.report_request.specs.Requests.{request_of}
 use Rattle.mrt_replay.proofs.RunLaws.{lines_are_report, damaged_counted, peers_counted, routes_counted, flush_failed, flush_succeeded, flush_unfailed, front_whole, stops_writing, stops_reading}
 use Rattle.mrt_replay.proofs.replay.run_on_tables.Goals as goal
 

@@ -3,7 +3,7 @@ use Rattle.std.specs.List.{flat_map}
 use Rattle.rib_report.specs.Lines.{origin_line, route_line, seen_line, visibility_line}
 use Rattle.rib_report.specs.Rows.{table_row}
 use Rattle.mrt_replay.specs.Reports.{lines_of}
-use Rattle.rib_report.specs.Requests.{request_of}
+use Rattle.report_request.specs.Requests.{request_of}
 use Rattle.mrt_replay.proofs.ReportLaws.{lines_are, wrote_lines, wrote_front}
 use Rattle.mrt_replay.proofs.replay.write_report.Goals as goal
 

@@ -1,6 +1,6 @@
 use Rattle.std.proofs.Common.{◌≡◌, refl, ◌<◌, length, map, set, get_or, sym, ap, ◌∙◌, arith}
 use Rattle.std.proofs.lemmas.List.{length-map, get_or-map, map-set}
-use Rattle.mrt_body.specs.declared.unit.PeerKey.{PeerKey}
+use Rattle.peer_units.specs.declared.unit.PeerKey.{PeerKey}
 use Rattle.adj_rib.specs.Histories.{chosen_notes, unit_notes}
 use Rattle.peer_tables.specs.Histories.{PeerWatch}
 use Rattle.peer_tables.specs.Peers.{units_of_peer}

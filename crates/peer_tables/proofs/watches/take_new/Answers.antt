@@ -1,6 +1,6 @@
 use Rattle.std.proofs.Common.{[], ◌∷◌, ◌++◌, map, refl, sym, ap, ◌∙◌}
 use Rattle.std.proofs.lemmas.List.{map-append}
-use Rattle.mrt_body.specs.declared.unit.PeerKey.{PeerKey}
+use Rattle.peer_units.specs.declared.unit.PeerKey.{PeerKey}
 use Rattle.adj_rib.specs.Histories.{chosen_notes, unit_notes, watch_of}
 use Rattle.peer_tables.specs.Peers.{units_of_peer}
 use Rattle.peer_tables.specs.declared.watches.Watched.{Watched}

@@ -1,7 +1,7 @@
 use Rattle.std.proofs.lemmas.List.Elements.{All-filter}
-use Rattle.mrt_body.specs.States.{IsByRule}
-use Rattle.mrt_body.specs.declared.state_rule.StateRule.TheVariants.{Recorded}
-use Rattle.mrt_body.specs.Plain.{Unit as ReplayUnit}
+use Rattle.peer_units.specs.States.{IsByRule}
+use Rattle.peer_units.specs.declared.state_rule.StateRule.TheVariants.{Recorded}
+use Rattle.peer_units.specs.Plain.{Unit as ReplayUnit}
 use Rattle.adj_rib.proofs.StateLaws.{established_if_up}
 use Rattle.peer_tables.specs.Peers.{peer_eq, units_of_peer}
 use Rattle.rib_report.proofs.laws.recorded_peers_are_shown_as_they_are.Goals as goal

@@ -1,5 +1,5 @@
 use Rattle.std.proofs.Common.{[], ◌∷◌, ◌++◌, ap}
-use Rattle.rib_report.specs.Plain.{AddressForms}
+use Rattle.report_request.specs.Plain.{AddressForms}
 use Rattle.rib_report.specs.Lines.{peer_text, key_text}
 use Rattle.ip_text.proofs.FormatLaws.{Formats_trans, Formats_as}
 use Rattle.rib_report.proofs.route_line.format_beginning.Goals as goal

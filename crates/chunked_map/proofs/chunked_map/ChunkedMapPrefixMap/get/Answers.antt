@@ -1,6 +1,6 @@
 use Rattle.std.proofs.Common.{sym, ◌∙◌}
 use Rattle.chunked_map.specs.ChunkedMaps.{routes_of}
-use Rattle.bgp_prefix.proofs.MapLaws.{found}
+use Rattle.prefix_maps.proofs.MapLaws.{found}
 use Rattle.chunked_map.proofs.chunked_map.ChunkedMapPrefixMap.get.Goals as goal
 
 pub returns : goal.returns

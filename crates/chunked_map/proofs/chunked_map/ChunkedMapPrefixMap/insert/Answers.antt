@@ -3,7 +3,7 @@ use Rattle.std.specs.FinMap as finite
 use Rattle.std.specs.FinMap.{find, put}
 use Rattle.std.proofs.lemmas.Result.{IfOk-weaker, on_ok_weaker}
 use Rattle.bgp_prefix.specs.Keys.{key_cmp}
-use Rattle.bgp_prefix.proofs.MapLaws.{found, inserted, Changes-put}
+use Rattle.prefix_maps.proofs.MapLaws.{found, inserted, Changes-put}
 use Rattle.chunked_map.proofs.chunked_map.ChunkedMapPrefixMap.insert.Goals as goal
 
 pub returns-in-Ok-clause-before : goal.returns-in-Ok-clause-before

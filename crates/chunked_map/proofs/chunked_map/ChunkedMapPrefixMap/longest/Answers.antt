@@ -1,5 +1,5 @@
 use Rattle.std.proofs.Common.{◌≤◌, sym, arith}
-use Rattle.bgp_prefix.proofs.JumpLaws.{IsLimit-start}
+use Rattle.prefix_maps.proofs.JumpLaws.{IsLimit-start}
 use Rattle.chunked_map.proofs.KeyedLists.{all_of_each}
 use Rattle.chunked_map.proofs.LastPrefixes.{none_last, found_last, falls_last, miss_last}
 use Rattle.chunked_map.proofs.chunked_map.ChunkedMapPrefixMap.longest.Goals as goal

@@ -1,4 +1,4 @@
-use Rattle.bgp_prefix.proofs.JumpLaws.{IsLimit}
+use Rattle.prefix_maps.proofs.JumpLaws.{IsLimit}
 use Rattle.chunked_map.proofs.chunked_map.ChunkedMapPrefixMap.longest.Given as goal
 
 abbrev pub invariant-loop-prefix : goal.invariant-loop-prefix

@@ -1,7 +1,7 @@
 use Rattle.std.proofs.Common.{sym, ◌∙◌, rules}
 use Rattle.chunked_map.specs.ChunkedMaps.{routes_of}
 use Rattle.chunked_map.proofs.MapInvariant.{map_without}
-use Rattle.bgp_prefix.proofs.MapLaws.{found, removed, Changes-without}
+use Rattle.prefix_maps.proofs.MapLaws.{found, removed, Changes-without}
 use Rattle.chunked_map.proofs.chunked_map.ChunkedMapPrefixMap.remove.Goals as goal
 
 pub invariant_of-self : goal.invariant_of-self

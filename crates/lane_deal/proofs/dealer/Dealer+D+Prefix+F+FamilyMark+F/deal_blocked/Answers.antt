@@ -1,5 +1,5 @@
 use Rattle.std.proofs.Common.{◌≡◌, ℕ, [], ◌∷◌, ◌∙◌, refl, sym, ap, arith}
-use Rattle.mrt_body.specs.declared.unit.Found.TheVariants as found
+use Rattle.peer_units.specs.declared.unit.Found.TheVariants as found
 use Rattle.lane_deal.specs.ToDeal.{to_deal}
 use Rattle.lane_deal.proofs.DealerLaws.{Handles-kept, HandsOn-blocked, HandsOn-dealt, IsFull-blocked, if_none}
 use Rattle.lane_deal.proofs.dealer.Dealer+D+Prefix+F+FamilyMark+F.deal_blocked.Goals as goal

@@ -1,6 +1,6 @@
 use Rattle.std.proofs.Common.{◌≡◌, ℕ, true, false, [], ◌∷◌, ◌∙◌, refl, ap, subst, arith}
 use Rattle.mrt_body.specs.Pending.{units_lent}
-use Rattle.mrt_body.specs.declared.unit.Found.TheVariants as found
+use Rattle.peer_units.specs.declared.unit.Found.TheVariants as found
 use Rattle.lane_deal.specs.DealerSteps.{DealsUnit}
 use Rattle.lane_deal.specs.ToDeal.{to_deal}
 use Rattle.lane_deal.proofs.DealerLaws.{HandsOn-none, HandsOn-blocked, HandsOn-dealt, IsFull-blocked, if_none, Taken-none, Taken-more, DealsFront-blocked}

@@ -1,7 +1,7 @@
 use Rattle.std.proofs.Common.{ap}
 use Rattle.std.proofs.Props.{props}
 use Rattle.std.specs.Option.{ForSome}
-use Rattle.mrt_body.specs.Units.{IsSmallUnit}
+use Rattle.peer_units.specs.Payloads.{IsSmallUnit}
 use Rattle.lane_deal.proofs.dealer.Dealer+D+Prefix+F+FamilyMark+F.lane_for.Goals as goal
 
 -- what is known of the kept unit has one proof

@@ -1,7 +1,7 @@
 use Rattle.std.proofs.Common.{◌∙◌, map, refl, ap, sym, subst}
-use Rattle.mrt_body.specs.Events.{event_in}
+use Rattle.peer_units.specs.Events.{event_in}
 use Rattle.peer_tables.specs.Seats.{seat_of}
-use Rattle.mrt_body.specs.DecodedEvents.{Means, event_of}
+use Rattle.peer_units.specs.DecodedEvents.{Means, event_of}
 use Rattle.lane_deal.specs.DecodedUnitLists.{head_of}
 use Rattle.lane_deal.specs.Seating.{SeatFor}
 use Rattle.lane_deal.proofs.SeatLists.{HoldsUnits-taken}

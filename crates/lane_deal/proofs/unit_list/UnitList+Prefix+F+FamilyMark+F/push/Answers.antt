@@ -6,7 +6,7 @@ use Rattle.lane_deal.specs.declared.listed_unit.NumberedPeer.{NumberedPeer}
 use Rattle.lane_deal.specs.ListedUnits.{IsListed, unit_in, unit_with}
 use Rattle.lane_deal.specs.UnitLists.{units_of}
 use Rattle.bgp_update.specs.Decoded.{IsWithin, span_of}
-use Rattle.mrt_body.specs.HeldBytes.{BytesMeet, payload_of_held}
+use Rattle.peer_units.specs.HeldBytes.{BytesMeet, payload_of_held}
 use Rattle.lane_deal.proofs.ListedLaws.{after_error, kept_alone, listed_more, own_bytes, placed_same, placed_within, units_kept, within_kept, within_push}
 use Rattle.lane_deal.proofs.unit_list.UnitList+Prefix+F+FamilyMark+F.push.Goals as goal
 

@@ -1,7 +1,7 @@
 use Rattle.std.proofs.Common.{◌≡◌, map, take}
 use Rattle.mrt_body.specs.RibDumps.{heard_of}
 use Rattle.mrt_body.specs.Pending.{listed_unit}
-use Rattle.mrt_body.specs.declared.rib_rule.RibRule.TheVariants.{Replace}
+use Rattle.peer_units.specs.declared.rib_rule.RibRule.TheVariants.{Replace}
 use Rattle.mrt_body.proofs.entries.RibRecord+Prefix+F.hear.Given as goal
 
 abbrev pub invariant-loop-entry : goal.invariant-loop-entry

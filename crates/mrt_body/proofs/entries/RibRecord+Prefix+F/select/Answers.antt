@@ -1,6 +1,6 @@
 use Rattle.std.proofs.Common.{◌≡◌, true, false, sym, ap, ◌∙◌}
 use Rattle.mrt_body.specs.Units.{time_of}
-use Rattle.mrt_body.specs.Selections.{takes_each_peer, takes_record}
+use Rattle.peer_units.specs.Selections.{takes_each_peer, takes_record}
 use Rattle.mrt_body.proofs.TakeLaws.{some_selected, all_selected, none_selected, listed_kept}
 use Rattle.mrt_body.proofs.entries.RibRecord+Prefix+F.select.Goals as goal
 

@@ -1,7 +1,7 @@
 use Rattle.std.proofs.Common.{List, Option, ◌++◌, ◌-◌, take, drop, length, sym, ap, subst, ◌∙◌}
 use Rattle.std.proofs.lemmas.List.{take-append-drop}
 use Rattle.mrt_body.specs.ToCome.{UnitsState, GivesPending, index_peers, index_pending}
-use Rattle.mrt_body.specs.declared.unit.PeerKey.{PeerKey}
+use Rattle.peer_units.specs.declared.unit.PeerKey.{PeerKey}
 use Rattle.mrt_body.proofs.WaitingLaws.{drop_both}
 use Rattle.mrt_body.proofs.units.Units.consume.Goals as goal
 

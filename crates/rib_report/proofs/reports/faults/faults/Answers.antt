@@ -1,6 +1,6 @@
 use Rattle.std.proofs.Common.{◌∙◌, ap, rules}
 use Rattle.std.proofs.lemmas.List.Sorted.{answers_always}
-use Rattle.mrt_body.specs.declared.unit.Damage.{Damage}
+use Rattle.peer_units.specs.declared.unit.Damage.{Damage}
 use Rattle.rib_report.specs.Reports.{in_place_order}
 use Rattle.rib_report.proofs.ListedLaws.{sorted_places}
 use Rattle.rib_report.proofs.reports.faults.faults.Goals as goal

@@ -1,8 +1,8 @@
 use Rattle.std.proofs.Common.{◌∷◌, ◌++◌, List, ℕ, Option, sym, ap, ◌∙◌, arith}
 use Rattle.bgp_prefix.specs.Keys.{RouteKey}
 use Rattle.bgp_update.specs.declared.route.Route.{Route}
-use Rattle.mrt_body.specs.declared.unit.PeerKey.{PeerKey}
-use Rattle.rib_report.specs.Plain.{AddressForms}
+use Rattle.peer_units.specs.declared.unit.PeerKey.{PeerKey}
+use Rattle.report_request.specs.Plain.{AddressForms}
 use Rattle.adj_rib.specs.declared.outcome.What.{What}
 use Rattle.peer_tables.specs.declared.history.By.{By}
 use Rattle.rib_report.specs.Fields.{time_text}

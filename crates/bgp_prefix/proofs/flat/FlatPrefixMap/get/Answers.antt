@@ -1,6 +1,0 @@
-use Rattle.std.proofs.Common.{sym, ◌∙◌}
-use Rattle.bgp_prefix.proofs.MapLaws.{found}
-use Rattle.bgp_prefix.proofs.flat.FlatPrefixMap.get.Goals as goal
-
-pub returns : goal.returns
-returns g c = c.get.ensures ∙ sym (found c.args.self.now c.args.key.now)

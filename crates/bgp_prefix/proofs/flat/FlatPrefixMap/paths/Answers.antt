@@ -1,5 +1,0 @@
-use Rattle.bgp_prefix.proofs.SortedMaps.{paths_of_sorted}
-use Rattle.bgp_prefix.proofs.flat.FlatPrefixMap.paths.Goals as goal
-
-pub returns : goal.returns
-returns g c = rw (← paths_of_sorted c.args.self.now c.paths.ensures.sorted c.args.prefix.now) c.paths.ensures.paths

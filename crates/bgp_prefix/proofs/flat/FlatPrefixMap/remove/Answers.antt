@@ -1,9 +1,0 @@
-use Rattle.std.proofs.Common.{sym, ◌∙◌}
-use Rattle.bgp_prefix.proofs.MapLaws.{found, removed, Changes-without}
-use Rattle.bgp_prefix.proofs.flat.FlatPrefixMap.remove.Goals as goal
-
-pub returns-clause-before : goal.returns-clause-before
-returns-clause-before g c = c.remove.ensures.before ∙ sym (found c.args.self.now c.args.key.now)
-
-pub returns-clause-removed : goal.returns-clause-removed
-returns-clause-removed g c = removed c.args.self.now c.remove.new.self c.args.key.now (Changes-without c.args.self.now c.remove.new.self c.args.key.now c.remove.ensures.removed)

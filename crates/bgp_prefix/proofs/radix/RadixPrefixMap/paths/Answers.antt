@@ -1,9 +1,0 @@
-use Rattle.bgp_prefix.specs.Tries.{routes}
-use Rattle.bgp_prefix.proofs.OrderLaws.{routes_sorted}
-use Rattle.bgp_prefix.proofs.SortedMaps.{entries_of_sorted}
-use Rattle.bgp_prefix.proofs.radix.RadixPrefixMap.paths.Goals as goal
-
-pub returns : goal.returns
-returns g c =
-    let root = c.self.inside.root in
-    rw (← c.self.view_is, entries_of_sorted (routes root) (routes_sorted root c.self.invariant.0)) c.paths.ensures

@@ -1,8 +1,0 @@
-use Rattle.mrt_body.proofs.EventLaws.{event_takes, event_again, one_event}
-use Rattle.mrt_body.proofs.laws.events_agree_with_their_payloads.Goals as goal
-
-pub returns : goal.returns
-returns c = record {
-  events = λ payload e fine. (event_takes payload e fine, event_again payload e);
-  one_event = one_event;
-}

@@ -1,0 +1,97 @@
+-- What payloads mean (RFC 4271, 4.1 to 4.3).
+use Rattle.std.specs.Prelude.{⊤, ◌≡◌, ◌≢◌, ℕ, ◌+◌, ◌^◌, ◌<◌, Bool, slice_index, List, ◌∷◌, ◌++◌, length, take, drop, replicate, Result, Ok, Err, nat_lt, ◌==◌, if◌then◌else◌}
+use Rattle.std.specs.List.{list_all}
+use Rattle.byteorder.specs.Endian.{big_number, big_bytes}
+use Rattle.bgp_prefix.specs.Keys.{RouteKey}
+use Rattle.mrt_frame.specs.declared.fault.Fault.{Fault}
+use Rattle.mrt_frame.specs.declared.fault.Fault.TheVariants.{BadMarker, BadLength}
+use Rattle.mrt_frame.specs.Fields.{◌>>=◌}
+use Rattle.bgp_update.specs.Families.{FamilyOf}
+use Rattle.bgp_update.specs.declared.width.Width.{Width}
+use Rattle.bgp_update.specs.declared.width.Width.TheVariants.{Four}
+use Rattle.bgp_update.specs.Attributes.{ReadsAsRoute, route_in}
+use Rattle.bgp_update.specs.Updates.{ReadsAsUpdate, update_in}
+use Rattle.bgp_update.specs.Packing.{IsWritable}
+use Rattle.peer_units.specs.Plain.{Payload}
+use Rattle.peer_units.specs.declared.unit.Payload.TheVariants.{State, Message, Entry, Clear}
+use Rattle.peer_units.specs.Plain.{Event}
+use Rattle.peer_units.specs.declared.meaning.Event.TheVariants as event
+
+-- marker of 16 bytes FF, length 2 that counts the header, type 1
+abbrev pub marker : List ℕ
+marker = replicate 16 255
+
+abbrev pub message_header_len : ℕ
+message_header_len = 19
+
+-- the message of a type with this body
+abbrev pub message_bytes : ℕ → List ℕ → List ℕ
+message_bytes kind body = marker ++ (big_bytes 2 (message_header_len + length body) ++ (kind ∷ body))
+
+-- the type of an UPDATE
+abbrev pub UPDATE : ℕ
+UPDATE = 2
+
+-- A message is an UPDATE with its reading, or of another type, which isn't read.
+abbrev pub IsMessageEvent : FamilyOf → Width → Bool → List ℕ → Event → Type 0
+IsMessageEvent family width add_path bytes (event.Change update) =
+    (body : List ℕ)
+    × (bytes ≡ message_bytes UPDATE body)
+    × (message_header_len + length body < 256 ^ 2)
+    × ReadsAsUpdate family width add_path body update
+IsMessageEvent family width add_path bytes event.Other =
+    (kind : ℕ)
+    × (body : List ℕ)
+    × (kind ≢ UPDATE)
+    × (bytes ≡ message_bytes kind body)
+    × (message_header_len + length body < 256 ^ 2)
+IsMessageEvent family width add_path bytes (event.State old new rule) = ⊥
+IsMessageEvent family width add_path bytes (event.Rib key route) = ⊥
+IsMessageEvent family width add_path bytes event.Clear = ⊥
+
+-- a RIB entry's attributes are read with four-octet AS numbers (RFC 6396, 4.3.4)
+abbrev pub IsEntryEvent : FamilyOf → RouteKey → List ℕ → Event → Type 0
+IsEntryEvent family key attrs (event.Rib other route) = (other ≡ key) × ReadsAsRoute family Four attrs route
+IsEntryEvent family key attrs (event.Change update) = ⊥
+IsEntryEvent family key attrs (event.State old new rule) = ⊥
+IsEntryEvent family key attrs event.Other = ⊥
+IsEntryEvent family key attrs event.Clear = ⊥
+
+-- the event of a payload, by the family that it has
+abbrev pub IsEvent : Payload → Event → Type 0
+IsEvent (State from to rule) e = e ≡ event.State from to rule
+IsEvent (Message bytes width add_path family) e = IsMessageEvent family width add_path bytes e
+IsEvent (Entry key attrs family) e = IsEntryEvent family key attrs e
+IsEvent Clear e = e ≡ event.Clear
+
+-- the path of the event's route, if it has one, can be written with four-octet AS numbers
+abbrev pub IsWritableEvent : Event → Type 0
+IsWritableEvent (event.Change update) = IsWritable update.route.path
+IsWritableEvent (event.Rib key route) = IsWritable route.path
+IsWritableEvent (event.State old new rule) = ⊤
+IsWritableEvent event.Other = ⊤
+IsWritableEvent event.Clear = ⊤
+
+-- ---- reading, with the first fault
+
+-- the header passes: its type and the body
+unfoldable pub message_in : List ℕ → Result (ℕ × List ℕ) Fault
+message_in bytes =
+    if nat_lt (length bytes) message_header_len then Err BadLength else
+    (if list_all (λ b. b == 255) (take 16 bytes) then
+    (if big_number 2 (drop 16 bytes) == length bytes then Ok (slice_index bytes 18, drop 19 bytes) else Err BadLength)
+    else Err BadMarker)
+
+unfoldable pub message_event_in : FamilyOf → Width → Bool → List ℕ → Result Event Fault
+message_event_in family width add_path bytes = message_in bytes >>= λ m.
+    if m.0 == UPDATE then (update_in family width add_path m.1 >>= λ update. Ok (event.Change update)) else
+    Ok event.Other
+
+abbrev pub entry_event_in : FamilyOf → RouteKey → List ℕ → Result Event Fault
+entry_event_in family key attrs = route_in family Four attrs >>= λ route. Ok (event.Rib key route)
+
+unfoldable pub event_in : Payload → Result Event Fault
+event_in (State from to rule) = Ok (event.State from to rule)
+event_in (Message bytes width add_path family) = message_event_in family width add_path bytes
+event_in (Entry key attrs family) = entry_event_in family key attrs
+event_in Clear = Ok event.Clear

@@ -1,0 +1,9 @@
+pub mod Plain
+pub mod Payloads
+pub mod Events
+pub mod DecodedEvents
+pub mod States
+pub mod Choices
+pub mod Named
+pub mod Selections
+pub mod HeldBytes

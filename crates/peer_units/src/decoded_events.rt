@@ -1,0 +1,241 @@
+//! What payloads mean, decoded one after another into blocks of memory that are used again.
+
+ghost use Rattle.std.specs.Prelude.{◌≡◌, [], ◌∷◌, ◌++◌, List, IfOk, OnErr, OnOk};
+ghost use Rattle.bgp_prefix.specs.Keys.{RouteKey as Key};
+ghost use Rattle.bgp_update.specs.Decoded.{IsGrown};
+ghost use Rattle.peer_units.specs.DecodedEvents.{IsEventAt, IsOneMore, event_at};
+ghost use Rattle.peer_units.specs.Events.{entry_event_in, event_in, message_event_in};
+
+use crate::event_ref::EventRef;
+use crate::interpret::UPDATE;
+use crate::message::message_in;
+use crate::state_rule::StateRule;
+use crate::unit::Payload;
+use crate::unit_ref::PayloadRef;
+use bgp_prefix::{Memory, Prefix, RouteKey};
+use bgp_update::{AttrError, RouteSpan, Unicast, UpdateSpans, Width, decode_entry, decode_update};
+use mrt_frame::Fault;
+use std::alloc::Global;
+use std::marker::Model;
+
+/// What a payload means, whose keys and routes are among others.
+#[derive(Clone, Copy)]
+pub(crate) enum DecodedEvent<P = Prefix> {
+    Other,
+    Clear,
+    Damaged(Fault),
+    State { rule: StateRule, from: u16, to: u16 },
+    Rib { key: RouteKey<P>, route: RouteSpan },
+    Change(UpdateSpans),
+}
+
+/// Decodes a message. Its keys and the packed bytes of its routes are appended to other ones.
+#[tactic(auto, unfolding(crate::specs::Events::message_event_in))]
+fn decode_message<F: Unicast>(
+    alloc: Global,
+    keys: &mut Vec<RouteKey<Prefix<F>>>,
+    bytes: &mut Vec<u8>,
+    message: &[u8],
+    width: Width,
+    add_path: bool,
+) -> Result<DecodedEvent<Prefix<F>>, Memory>
+    ensures means { IfOk result (λ event. event_at keys.new.items bytes.new.items event
+        ≡ message_event_in F.family width add_path message.now) }
+    ensures there { IfOk result (IsEventAt keys.new.items bytes.new.items) }
+    ensures keys { OnOk result (IsGrown keys.old.items keys.new.items) }
+    ensures bytes { OnOk result (IsGrown bytes.old.items bytes.new.items) }
+{
+    let (kind, body) = match message_in(message) {
+        Ok(parts) => parts,
+        Err(fault) => return Ok(DecodedEvent::Damaged(fault)),
+    };
+    if kind != UPDATE {
+        return Ok(DecodedEvent::Other);
+    }
+    match decode_update(alloc, keys, bytes, body, width, add_path) {
+        Ok(spans) => Ok(DecodedEvent::Change(spans)),
+        Err(AttrError::Bad(fault)) => Ok(DecodedEvent::Damaged(fault)),
+        Err(AttrError::Memory) => Err(Memory),
+    }
+}
+
+/// Keeps one more event, or none at all without memory for it.
+#[inline(always)]
+fn keep<P: Drop>(events: &mut Vec<DecodedEvent<P>>, event: DecodedEvent<P>) -> Result<(), Memory>
+    ensures kept { OnOk result (events.new.items ≡ events.old.items ++ event ∷ []) }
+    ensures none { OnErr result (events.new.items ≡ []) }
+{
+    let Ok(()) = events.reserve(1) else {
+        events.clear();
+        return Err(Memory);
+    };
+    events.push_reserved(event);
+    Ok(())
+}
+
+/// Decodes the attributes of a RIB entry (RFC 6396, 4.3.4), and keeps what it means behind other events.
+#[inline(always)]
+fn keep_entry<F: Unicast>(
+    alloc: Global,
+    events: &mut Vec<DecodedEvent<Prefix<F>>>,
+    bytes: &mut Vec<u8>,
+    key: RouteKey<Prefix<F>>,
+    attrs: &[u8],
+) -> Result<(), Memory>
+    ensures kept { OnOk result ((keys : List Key) → IsOneMore keys bytes.old.items events.old.items
+        keys bytes.new.items events.new.items (entry_event_in F.family key attrs.now)) }
+    ensures none { OnErr result (events.new.items ≡ []) }
+{
+    match decode_entry::<F>(alloc, bytes, attrs, Width::Four) {
+        Ok(route) => keep(events, DecodedEvent::Rib { key, route }),
+        Err(AttrError::Bad(fault)) => keep(events, DecodedEvent::Damaged(fault)),
+        Err(AttrError::Memory) => {
+            events.clear();
+            Err(Memory)
+        }
+    }
+}
+
+/// Decodes a payload, and keeps what it means behind other events. Each kind is kept by itself, since in common with
+/// the others all fields of all kinds would be moved.
+#[inline(always)]
+#[tactic(auto, unfolding(crate::specs::Events::event_in))]
+fn keep_decoded<F: Unicast>(
+    alloc: Global,
+    events: &mut Vec<DecodedEvent<Prefix<F>>>,
+    keys: &mut Vec<RouteKey<Prefix<F>>>,
+    bytes: &mut Vec<u8>,
+    payload: &PayloadRef<'_, F>,
+) -> Result<(), Memory>
+    ensures kept { OnOk result (IsOneMore keys.old.items bytes.old.items events.old.items
+        keys.new.items bytes.new.items events.new.items (event_in payload.now)) }
+    ensures none { OnErr result (events.new.items ≡ []) }
+{
+    match payload {
+        Payload::State { from, to, rule } => {
+            let (rule, from, to) = (*rule, *from, *to);
+            keep(events, DecodedEvent::State { rule, from, to })
+        }
+        Payload::Message {
+            bytes: message,
+            width,
+            add_path,
+            family,
+        } => {
+            family.is_known();
+            match decode_message(alloc, keys, bytes, message.as_slice(), *width, *add_path) {
+                Ok(event) => keep(events, event),
+                Err(memory) => {
+                    events.clear();
+                    Err(memory)
+                }
+            }
+        }
+        Payload::Entry { key, attrs, family } => {
+            family.is_known();
+            keep_entry(alloc, events, bytes, *key, attrs.as_slice())
+        }
+        Payload::Clear => keep(events, DecodedEvent::Clear),
+    }
+}
+
+/// What payloads mean, in order, each decoded once: contracts see the list of their events and faults. The keys and the
+/// packed bytes of the routes are in one block of memory each.
+#[derive(Drop)]
+pub struct DecodedEvents<F: Unicast = u32> {
+    events: Vec<DecodedEvent<Prefix<F>>>,
+    keys: Vec<RouteKey<Prefix<F>>>,
+    bytes: Vec<u8>,
+}
+
+impl<F: Unicast> Model for DecodedEvents<F> {
+    ghost use Rattle.std.specs.Prelude.{List, Result};
+    ghost use Rattle.mrt_frame.specs.declared.fault.Fault.{Fault};
+    ghost use Rattle.peer_units.specs.Plain.{Event};
+    ghost use Rattle.peer_units.specs.DecodedEvents.{AreEventsAt, events_at};
+
+    ghost Value = { List (Result Event Fault) };
+
+    ghost view = { λ d. events_at d.keys.items d.bytes.items d.events.items };
+
+    ghost invariant = { λ d. AreEventsAt d.keys.items d.bytes.items d.events.items };
+}
+
+impl<F: Unicast> DecodedEvents<F> {
+    ghost use Rattle.std.specs.Prelude.{◌≡◌, ◌<◌, [], ◌∷◌, ◌++◌, OnOk, length, slice_index_or};
+    ghost use Rattle.peer_units.specs.DecodedEvents.{event_of};
+    ghost use Rattle.peer_units.specs.Events.{event_in};
+
+    /// Returns no events. Allocates nothing.
+    pub fn new(alloc: Global) -> DecodedEvents<F>
+        ensures { result ≡ [] }
+    {
+        DecodedEvents {
+            events: Vec::new(alloc),
+            keys: Vec::new(alloc),
+            bytes: Vec::new(alloc),
+        }
+    }
+
+    /// How many there are.
+    pub fn len(&self) -> usize
+        ensures { result ≡ length self.now }
+    {
+        self.events.len()
+    }
+
+    /// Removes all. Their memory stays for other ones.
+    pub fn clear(&mut self)
+        ensures { self.new ≡ [] }
+    {
+        self.events.clear();
+        self.keys.clear();
+        self.bytes.clear();
+    }
+
+    /// Adds what a payload means, or its first fault, as `event` has it. After an `Err` others may be gone.
+    // Inlined, since for a call the payload would be kept in memory.
+    #[inline(always)]
+    pub fn push(&mut self, alloc: Global, payload: &PayloadRef<'_, F>) -> Result<(), Memory>
+        ensures { OnOk result (self.new ≡ self.old ++ event_in payload.now ∷ []) }
+    {
+        keep_decoded(
+            alloc,
+            &mut self.events,
+            &mut self.keys,
+            &mut self.bytes,
+            payload,
+        )
+    }
+
+    /// What the payload at an index means.
+    #[inline(always)]
+    pub fn at(&self, at: usize) -> EventRef<'_, Prefix<F>>
+        requires { at < length self.now }
+        ensures { (d : _) → slice_index_or self.now at d ≡ event_of result }
+    {
+        match self.events[at] {
+            DecodedEvent::Other => EventRef::Other,
+            DecodedEvent::Clear => EventRef::Clear,
+            DecodedEvent::Damaged(fault) => EventRef::Damaged(fault),
+            DecodedEvent::State { rule, from, to } => EventRef::State(from, to, rule),
+            DecodedEvent::Rib { key, route } => {
+                EventRef::Rib(key, route.route(self.bytes.as_slice()))
+            }
+            DecodedEvent::Change(spans) => {
+                EventRef::Change(spans.update(self.keys.as_slice(), self.bytes.as_slice()))
+            }
+        }
+    }
+
+    /// The route that a session which takes the event at an index will look for first, if there is one: for prefetching
+    /// alone.
+    #[inline(always)]
+    pub fn first_route(&self, at: usize) -> Option<RouteSpan> {
+        match self.events.get(at) {
+            Some(DecodedEvent::Rib { key: _, route }) => Some(*route),
+            Some(DecodedEvent::Change(spans)) => spans.first_route(),
+            _ => None,
+        }
+    }
+}

@@ -1,0 +1,290 @@
+//! Which of the units of files are returned.
+
+ghost use Rattle.std.specs.Prelude.{◌≡◌, IfOk, true};
+ghost use Rattle.peer_units.specs.Choices.{all_of, is_in_share, is_open};
+ghost use Rattle.peer_units.specs.Selections.{concerns, has_chosen, is_past, is_selected, speaks_of, takes_each_peer, takes_peer, takes_record};
+ghost use Rattle.peer_units.specs.DecodedEvents.{event_of};
+
+use crate::choice::{PeerChoice, is_chosen_peer};
+use crate::chosen_prefixes::ChosenPrefixes;
+use crate::decoded_events::DecodedEvents;
+use crate::event_ref::EventRef;
+use crate::rib_rule::RibRule;
+use crate::share::Share;
+use crate::state_rule::StateRule;
+use crate::unit::{Payload, PeerKey};
+use crate::unit_ref::{PayloadRef, UnitRef};
+use bgp_prefix::{Memory, Prefix, RouteKey};
+use bgp_update::Unicast;
+use std::alloc::Global;
+use std::marker::Model;
+
+/// Which of the units that records give are returned: those that meet each criterion. Any other unit is
+/// skipped, as if no record gave it. Refused records, index tables and the counts of records are the same
+/// for each selection. It also says by which rules state changes and further RIB dumps are taken, and by its type of
+/// which family the routes are that are read.
+#[derive(Debug, Drop)]
+pub struct Selection<F: Unicast = u32> {
+    /// The last second of which units are returned, in seconds since 1970 UTC. A unit is skipped if the
+    /// whole second of its time is past it. With `None` no time is.
+    until: Option<u64>,
+    /// Which prefixes are chosen. A unit that can't concern a chosen prefix is skipped: a RIB entry of another prefix,
+    /// or an UPDATE that speaks of others only.
+    prefixes: ChosenPrefixes<F>,
+    /// Which peers are chosen: those that one of these takes, or all if there are none.
+    peers: Vec<PeerChoice>,
+    /// Of the chosen peers those in this share alone, or all with `None`.
+    share: Option<Share>,
+    /// The rule by which state changes are taken. It makes no difference to which units are returned.
+    states: StateRule,
+    /// What a further RIB dump does to the routes before it.
+    ribs: RibRule,
+}
+
+impl<F: Unicast> Model for Selection<F> {
+    ghost use Rattle.peer_units.specs.Choices.{UnitSelection};
+
+    ghost Value = { UnitSelection };
+
+    ghost view = { λ s. record {
+      until = s.until;
+      prefixes = s.prefixes;
+      peers = s.peers.items;
+      share = s.share;
+      states = s.states;
+      ribs = s.ribs;
+      family = F.family;
+    } };
+}
+
+/// Whether one of the keys has a chosen prefix.
+fn has_chosen<F: Unicast>(chosen: &ChosenPrefixes<F>, keys: &[RouteKey<Prefix<F>>]) -> bool
+    ensures { result ≡ has_chosen chosen.now keys.now }
+{
+    for key in keys {
+        if chosen.takes(&key.prefix) {
+            return true;
+        }
+    }
+    false
+}
+
+/// Whether a message speaks of a chosen prefix, or may: a damaged one does.
+fn speaks_of<F: Unicast>(chosen: &ChosenPrefixes<F>, event: &EventRef<'_, Prefix<F>>) -> bool
+    ensures { result ≡ speaks_of chosen.now (event_of event.now) }
+{
+    match event {
+        EventRef::Change(update) => {
+            has_chosen(chosen, update.withdrawn)
+                || has_chosen(chosen, update.unreached)
+                || has_chosen(chosen, update.announced)
+                || has_chosen(chosen, update.reached)
+        }
+        EventRef::Other => false,
+        _ => true,
+    }
+}
+
+/// Whether a payload can concern a chosen prefix. A message is decoded in place of what was decoded before.
+fn concerns<F: Unicast>(
+    alloc: Global,
+    decoded: &mut DecodedEvents<F>,
+    chosen: &ChosenPrefixes<F>,
+    payload: &PayloadRef<'_, F>,
+) -> Result<bool, Memory>
+    ensures { IfOk result (λ concerned. concerned ≡ concerns chosen.now payload.now) }
+{
+    match payload {
+        Payload::State { .. } | Payload::Clear => Ok(true),
+        Payload::Entry { key, .. } => Ok(chosen.takes(&key.prefix)),
+        Payload::Message { .. } => {
+            if chosen.is_open() {
+                return Ok(true);
+            }
+            decoded.clear();
+            decoded.push(alloc, payload)?;
+            Ok(speaks_of(chosen, &decoded.at(0)))
+        }
+    }
+}
+
+/// Whether a peer is in the share, or no share is named.
+fn is_in_share(share: Option<Share>, peer: &PeerKey) -> bool
+    ensures { result ≡ is_in_share share peer.now }
+{
+    match share {
+        Some(share) => share.takes(peer),
+        None => true,
+    }
+}
+
+impl<F: Unicast> Selection<F> {
+    /// Returns the selection of all units, with state changes taken as they are recorded and RIB dumps added.
+    pub fn all(alloc: Global) -> Selection<F>
+        ensures { result ≡ all_of F.family }
+    {
+        Selection {
+            until: None,
+            prefixes: ChosenPrefixes::all(alloc),
+            peers: Vec::new(alloc),
+            share: None,
+            states: StateRule::Recorded,
+            ribs: RibRule::Add,
+        }
+    }
+
+    /// Returns the same selection up to the end of this second since 1970 UTC, or of all times with `None`.
+    pub fn up_to(mut self, until: Option<u64>) -> Selection<F>
+        ensures { result ≡ record self { until = until } }
+    {
+        self.until = until;
+        self
+    }
+
+    /// Returns the same selection of what can concern the chosen prefixes.
+    pub fn of_prefixes(mut self, prefixes: ChosenPrefixes<F>) -> Selection<F>
+        ensures { result ≡ record self { prefixes = prefixes } }
+    {
+        self.prefixes = prefixes;
+        self
+    }
+
+    /// Returns the same selection of the peers that these take, or of all peers if there are none.
+    pub fn of_peers(mut self, peers: Vec<PeerChoice>) -> Selection<F>
+        ensures { result ≡ record self { peers = peers.items } }
+    {
+        self.peers = peers;
+        self
+    }
+
+    /// Returns the same selection of the peers in this share, or in any with `None`.
+    pub fn of_share(mut self, share: Option<Share>) -> Selection<F>
+        ensures { result ≡ record self { share = share } }
+    {
+        self.share = share;
+        self
+    }
+
+    /// Returns the same selection, with state changes taken by this rule.
+    pub fn by_states(mut self, states: StateRule) -> Selection<F>
+        ensures { result ≡ record self { states = states } }
+    {
+        self.states = states;
+        self
+    }
+
+    /// Returns the same selection, with further RIB dumps taken by this rule.
+    pub fn by_ribs(mut self, ribs: RibRule) -> Selection<F>
+        ensures { result ≡ record self { ribs = ribs } }
+    {
+        self.ribs = ribs;
+        self
+    }
+
+    /// A selection is of no other family than that of its type.
+    #[inline(always)]
+    pub fn is_known(&self)
+        ensures { self.now.family ≡ F.family }
+    {
+        let _until = self.until;
+    }
+
+    /// The rule by which further RIB dumps are taken.
+    pub fn ribs(&self) -> RibRule
+        ensures { result ≡ self.now.ribs }
+    {
+        self.ribs
+    }
+
+    /// The rule by which state changes are taken.
+    pub fn states(&self) -> StateRule
+        ensures { result ≡ self.now.states }
+    {
+        self.states
+    }
+
+    /// The prefixes that are chosen.
+    pub fn prefixes(&self) -> &ChosenPrefixes<F>
+        ensures { result.now ≡ self.now.prefixes }
+    {
+        &self.prefixes
+    }
+
+    /// Whether no prefix is named, so that all are chosen.
+    pub fn is_open(&self) -> bool
+        ensures { result ≡ is_open self.now.prefixes }
+    {
+        self.prefixes.is_open()
+    }
+
+    /// Whether neither peers nor a share are named, so that each peer is taken.
+    #[inline(always)]
+    pub fn takes_each_peer(&self) -> bool
+        ensures { result ≡ takes_each_peer self.now }
+    {
+        self.peers.is_empty() && self.share.is_none()
+    }
+
+    /// Whether the units of a peer are selected, as far as it decides.
+    #[inline(always)]
+    pub fn takes_peer(&self, peer: &PeerKey) -> bool
+        ensures { result ≡ takes_peer self.now peer.now }
+    {
+        if self.takes_each_peer() {
+            return true;
+        }
+        self.takes_named_peer(peer)
+    }
+
+    /// The same, where peers or a share are named.
+    #[inline(never)]
+    fn takes_named_peer(&self, peer: &PeerKey) -> bool
+        ensures { result ≡ takes_peer self.now peer.now }
+    {
+        is_chosen_peer(&self.peers, peer) && is_in_share(self.share, peer)
+    }
+
+    /// Whether a unit is selected, where all prefixes are chosen: then its time and its peer decide.
+    #[tactic(auto, using(crate::proofs::OpenLaws::open_concerns))]
+    pub fn takes_unread(&self, unit: &UnitRef<'_, F>) -> bool
+        requires { is_open self.now.prefixes ≡ true }
+        ensures { result ≡ is_selected self.now unit.now }
+    {
+        !self.is_past(unit.time) && self.takes_peer(&unit.peer)
+    }
+
+    /// Whether a unit is selected. A message is decoded in place of what was decoded before.
+    pub fn selects(
+        &self,
+        alloc: Global,
+        decoded: &mut DecodedEvents<F>,
+        unit: &UnitRef<'_, F>,
+    ) -> Result<bool, Memory>
+        ensures { IfOk result (λ selected. selected ≡ is_selected self.now unit.now) }
+    {
+        if self.is_past(unit.time) || !self.takes_peer(&unit.peer) {
+            return Ok(false);
+        }
+        concerns(alloc, decoded, &self.prefixes, &unit.payload)
+    }
+
+    /// Whether the entries of a RIB record of this time and prefix are selected, as far as these decide.
+    pub fn takes_record(&self, time: u64, prefix: &Prefix<F>) -> bool
+        ensures { result ≡ takes_record self.now time prefix.now }
+    {
+        if self.is_past(time) {
+            return false;
+        }
+        self.prefixes.takes(prefix)
+    }
+
+    /// Whether all units of this time, in microseconds since 1970 UTC, are skipped.
+    pub fn is_past(&self, time: u64) -> bool
+        ensures { result ≡ is_past self.now.until time }
+    {
+        match self.until {
+            Some(until) => time / 1_000_000 > until,
+            None => false,
+        }
+    }
+}

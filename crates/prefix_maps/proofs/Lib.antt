@@ -1,0 +1,15 @@
+pub mod Outcomes
+pub mod MapLaws
+pub mod SplitLaws
+pub mod NetworkLaws
+pub mod TrieLaws
+pub mod InsertLaws
+pub mod RemoveLaws
+pub mod ForkLaws
+pub mod MatchLaws
+pub mod OrderLaws
+pub mod LongestLaws
+pub mod JumpLaws
+pub mod WalkLaws
+pub mod ListedLaws
+pub mod RadixLaws

@@ -1,0 +1,3 @@
+pub mod Tries
+pub mod Directions
+pub mod Splits
