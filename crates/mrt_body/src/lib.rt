@@ -28,6 +28,7 @@
 
 mod bgp4mp;
 mod body_kind;
+mod body_unit;
 mod entries;
 mod laws;
 mod lent_units;
@@ -38,7 +39,6 @@ mod remarks;
 mod rib;
 mod rib_dumps;
 mod rib_reader;
-mod session_unit;
 mod units;
 mod waiting;
 

@@ -7,8 +7,8 @@ ghost use Rattle.mrt_body.specs.Units as units_spec;
 ghost use Rattle.peer_units.specs.Payloads.{payload_bytes};
 
 use crate::bgp4mp::{microseconds_at, session_peer_at, states_in};
+use crate::body_unit::{BodyEnd, BodyUnit};
 use crate::record_place::RecordAt;
-use crate::session_unit::SessionUnit;
 use bgp_prefix::Sequence;
 use bgp_update::{FamilyMark, Unicast, Width};
 use mrt_frame::Fault;
@@ -22,7 +22,7 @@ pub(crate) fn message_unit<F: Unicast>(
     width: Width,
     add_path: bool,
     body: Sequence<u8>,
-) -> Result<SessionUnit<F>, Fault>
+) -> Result<BodyUnit<F>, Fault>
     requires { length body ≤ body_limit }
     ensures reads { Reads (λ unit. unit) result (units_spec.message_unit F.family at is_extended width add_path body) }
     ensures small { IfOk result (λ unit. length (payload_bytes unit.payload) ≤ length body) }
@@ -31,18 +31,17 @@ pub(crate) fn message_unit<F: Unicast>(
     let (microseconds, after) = microseconds_at(bytes, is_extended)?;
     let (peer, rest) = session_peer_at(after, width)?;
     let start = bytes.len() - rest.len();
-    let unit = Unit {
+    Ok(Unit {
         place: at.place(None),
         time: at.time(microseconds),
         peer,
         payload: Payload::Message {
-            bytes: start,
+            bytes: BodyEnd::new(body, start),
             width,
             add_path,
             family: FamilyMark::new(),
         },
-    };
-    Ok(SessionUnit { unit, body })
+    })
 }
 
 /// Returns the unit of a state change, which is taken by this rule.
@@ -52,20 +51,18 @@ pub(crate) fn states_unit<F: Unicast>(
     at: RecordAt,
     is_extended: bool,
     width: Width,
-    body: Sequence<u8>,
-) -> Result<SessionUnit<F>, Fault>
-    requires { length body ≤ body_limit }
-    ensures reads { Reads (λ unit. unit) result (units_spec.states_unit rule at is_extended width body) }
+    body: &[u8],
+) -> Result<BodyUnit<F>, Fault>
+    ensures reads { Reads (λ unit. unit) result (units_spec.states_unit rule at is_extended width body.now) }
     ensures small { IfOk result (λ unit. payload_bytes unit.payload ≡ []) }
 {
-    let (microseconds, rest) = microseconds_at(body.as_slice(), is_extended)?;
+    let (microseconds, rest) = microseconds_at(body, is_extended)?;
     let (peer, rest) = session_peer_at(rest, width)?;
     let (from, to) = states_in(rest)?;
-    let unit = Unit {
+    Ok(Unit {
         place: at.place(None),
         time: at.time(microseconds),
         peer,
         payload: Payload::State { from, to, rule },
-    };
-    Ok(SessionUnit { unit, body })
+    })
 }

@@ -13,6 +13,7 @@ ghost use Rattle.mrt_body.specs.ToCome.{UnitsState, GivesPending, Steps, refusal
 ghost use Rattle.mrt_body.specs.Readings.{Gives, Ends, Stops, Stays, IsBounded, GivesCut, Lowers, StopsInFile, GoesOn, WantsMemory, StaysHere};
 
 use crate::body_kind::{body_kind_of, is_extended};
+use crate::body_unit::lent;
 use crate::lent_units::{Lent, LentUnits};
 use crate::record_place::RecordAt;
 use crate::remarks::{Remarker, Remarks};
@@ -37,7 +38,7 @@ pub struct Units<F: Unicast = u32> {
     dumps: RibDumps,
     /// What is to be returned before the entries of the record cut last.
     waiting: Waiting<F>,
-    /// The memory of a record whose units were consumed, into which the next one is read.
+    /// The memory of a record that was cut before, into which the next one is read.
     spare: Option<Vec<u8>>,
     selection: Selection<F>,
     /// Where messages are decoded that are only selected by their prefixes. What is there has no meaning.
@@ -231,7 +232,7 @@ impl<F: Unicast> Units<F> {
             return Lent::None;
         };
         if let Some(unit) = self.waiting.lend() {
-            return Lent::Unit(unit.lend());
+            return Lent::Unit(lent(unit));
         }
         match &self.index {
             Some(index) => match index.lend() {

@@ -3,9 +3,8 @@
 ghost use Rattle.std.specs.Prelude.{◌≡◌, ◌∷◌, ◌++◌, ◌↔◌, [], IfSome, None, drop, false, map, option_to_list};
 ghost use Rattle.mrt_body.specs.Units.{clear_unit};
 
+use crate::body_unit::{BodyUnit, block_of};
 use crate::record_place::RecordAt;
-use crate::session_unit::SessionUnit;
-use bgp_prefix::Sequence;
 use bgp_update::Unicast;
 use peer_units::{Payload, PeerKey, Unit};
 use std::alloc::Global;
@@ -16,11 +15,10 @@ use std::marker::Model;
 /// still to be returned.
 #[derive(Drop)]
 pub(crate) struct Waiting<F: Unicast> {
-    first: Option<SessionUnit<F>>,
+    first: Option<BodyUnit<F>>,
     /// The peers whose tables are to be cleared behind the first unit, by the dump that begins there.
     cleared: BTreeSet<PeerKey>,
     at: RecordAt,
-    alloc: Global,
 }
 
 impl<F: Unicast> Model for Waiting<F> {
@@ -37,11 +35,7 @@ impl<F: Unicast> Model for Waiting<F> {
 
 /// Takes out the clear of the first of these peers, by a record at this place.
 #[inline(always)]
-fn next_clear<F: Unicast>(
-    alloc: Global,
-    at: &RecordAt,
-    cleared: &mut BTreeSet<PeerKey>,
-) -> Option<SessionUnit<F>>
+fn next_clear<F: Unicast>(at: &RecordAt, cleared: &mut BTreeSet<PeerKey>) -> Option<BodyUnit<F>>
     ensures gives { map (clear_unit at.now) cleared.old.keys
         ≡ option_to_list result ++ map (clear_unit at.now) cleared.new.keys }
     ensures none { result ≡ None → cleared.new.keys ≡ [] }
@@ -49,28 +43,21 @@ fn next_clear<F: Unicast>(
     if cleared.is_empty() {
         return None;
     }
-    pop_clear(alloc, at, cleared)
+    pop_clear(at, cleared)
 }
 
 #[inline(never)]
-fn pop_clear<F: Unicast>(
-    alloc: Global,
-    at: &RecordAt,
-    cleared: &mut BTreeSet<PeerKey>,
-) -> Option<SessionUnit<F>>
+fn pop_clear<F: Unicast>(at: &RecordAt, cleared: &mut BTreeSet<PeerKey>) -> Option<BodyUnit<F>>
     ensures gives { map (clear_unit at.now) cleared.old.keys
         ≡ option_to_list result ++ map (clear_unit at.now) cleared.new.keys }
     ensures none { result ≡ None → cleared.new.keys ≡ [] }
 {
     let peer = cleared.pop_first()?;
-    Some(SessionUnit {
-        unit: Unit {
-            place: at.place(None),
-            time: at.time(0),
-            peer,
-            payload: Payload::Clear,
-        },
-        body: Sequence::from_vec(Vec::new(alloc)),
+    Some(Unit {
+        place: at.place(None),
+        time: at.time(0),
+        peer,
+        payload: Payload::Clear,
     })
 }
 
@@ -87,7 +74,6 @@ impl<F: Unicast> Waiting<F> {
                 offset: 0,
                 seconds: 0,
             },
-            alloc,
         }
     }
 
@@ -101,7 +87,7 @@ impl<F: Unicast> Waiting<F> {
 
     /// Keeps a unit to be returned.
     #[inline(always)]
-    pub(crate) fn put(&mut self, unit: SessionUnit<F>)
+    pub(crate) fn put(&mut self, unit: BodyUnit<F>)
         requires { self.old ≡ [] }
         ensures { self.new ≡ unit ∷ [] }
     {
@@ -114,7 +100,7 @@ impl<F: Unicast> Waiting<F> {
         ensures { self.new ≡ map (clear_unit at) peers.keys }
     {
         let mut cleared = peers;
-        let first = next_clear(self.alloc, &at, &mut cleared);
+        let first = next_clear(&at, &mut cleared);
         self.first = first;
         self.at = at;
         self.cleared = cleared;
@@ -130,22 +116,22 @@ impl<F: Unicast> Waiting<F> {
 
     /// Lends the next unit, if there is one.
     #[inline(always)]
-    pub(crate) fn lend(&self) -> Option<&SessionUnit<F>>
+    pub(crate) fn lend(&self) -> Option<&BodyUnit<F>>
         ensures lends { IfSome result (λ unit. self.now ≡ unit.now ∷ drop 1 self.now) }
         ensures none { result ≡ None → self.now ≡ [] }
     {
         self.first.as_ref()
     }
 
-    /// Leaves the next unit behind, and returns the memory of its record.
+    /// Leaves the next unit behind, and returns the memory of its record, if it keeps it.
     #[inline(always)]
     pub(crate) fn consume(&mut self) -> Option<Vec<u8>>
         ensures { self.new ≡ drop 1 self.old }
     {
         let unit = self.first.take()?;
         if !self.cleared.is_empty() {
-            self.first = pop_clear(self.alloc, &self.at, &mut self.cleared);
+            self.first = pop_clear(&self.at, &mut self.cleared);
         }
-        Some(unit.into_body().into_vec())
+        block_of(unit)
     }
 }

@@ -244,15 +244,6 @@ impl<F: Unicast> Selection<F> {
         is_chosen_peer(&self.peers, peer) && is_in_share(self.share, peer)
     }
 
-    /// Whether a unit is selected, where all prefixes are chosen: then its time and its peer decide.
-    #[tactic(auto, using(crate::proofs::OpenLaws::open_concerns))]
-    pub fn takes_unread(&self, unit: &UnitRef<'_, F>) -> bool
-        requires { is_open self.now.prefixes ≡ true }
-        ensures { result ≡ is_selected self.now unit.now }
-    {
-        !self.is_past(unit.time) && self.takes_peer(&unit.peer)
-    }
-
     /// Whether a unit is selected. A message is decoded in place of what was decoded before.
     pub fn selects(
         &self,

@@ -1,7 +1,7 @@
 -- Shown peers and rows, with prefixes of either family.
 use Rattle.bgp_prefix.specs.Prefixes.{IpPrefix}
 use Rattle.bgp_update.specs.Families.{FamilyOf}
-use Rattle.rib_report.specs.declared.shown_peer.ShownPeer.{ShownPeer as ShownPeerOf}
+use Rattle.rib_report.specs.declared.field.ShownPeer.{ShownPeer as ShownPeerOf}
 use Rattle.rib_report.specs.declared.reports.tables.TableRow.{TableRow as BorrowingRowOf}
 use Rattle.rib_report.specs.declared.reports.visibility.VisibilityRow.{VisibilityRow as VisibilityRowOf}
 use Rattle.rib_report.specs.declared.reports.origins.OriginRow.{OriginRow as OriginRowOf}

@@ -6,10 +6,9 @@ ghost use Rattle.rib_report.specs.Fields.{numbers_text};
 ghost use Rattle.rib_report.specs.LineParts.{line_beginning, line_end};
 ghost use Rattle.rib_report.specs.Texts.{empty_buffer, Adds};
 
-use crate::field::{Field, PeerText};
+use crate::field::{Field, PeerText, ShownPeerOf};
 use crate::numbers::format_numbers;
 use crate::route_line::{END_BYTES, beginning_bytes, format_beginning, format_end};
-use crate::shown_peer::ShownPeerOf;
 use crate::text::Text;
 use bgp_prefix::{Prefix, RouteKey};
 use bgp_update::{PackedSegment, RouteRef, Unicast};

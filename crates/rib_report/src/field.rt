@@ -7,7 +7,6 @@ ghost use Rattle.ip_text.specs.Ipv6Texts.{ipv6_text};
 ghost use Rattle.ip_text.specs.AddressTexts.{address_text};
 ghost use Rattle.rib_report.specs.Lines.{addr_text, peer_text, prefix_text, identifier_text, key_text, next_hop_text, origin_text, aggregator_text, atomic_text, state_text};
 
-use crate::shown_peer::{ShownPeer, ShownPeerOf};
 use bgp_prefix::{Prefix, RouteKey};
 use bgp_update::{Aggregator, FamilyMark, NextHop, Origin, Unicast};
 use ip_text::{
@@ -15,7 +14,7 @@ use ip_text::{
     format_number, format_short, format_six, format_text, format_three,
 };
 use itoa::Buffer;
-use peer_units::PeerAddr;
+use peer_units::{PeerAddr, PeerKey};
 use report_request::{AddressForms, AddressFormsOf};
 use std::marker::Model;
 
@@ -209,6 +208,16 @@ fn format_addr(
         PeerAddr::V6(addr) => format_ipv6(bytes, at, shorts, form, addr),
     }
 }
+
+/// A peer, and the forms of the addresses in its lines.
+#[derive(Clone, Copy)]
+pub(crate) struct ShownPeer<K = FamilyMark> {
+    pub(crate) key: PeerKey,
+    pub(crate) forms: AddressForms<K>,
+}
+
+/// A peer in a report on routes of a family.
+pub(crate) type ShownPeerOf<F> = ShownPeer<FamilyMark<F>>;
 
 impl<F: Unicast> Field for ShownPeer<FamilyMark<F>> {
     ghost text_of = { λ p. peer_text p.forms p.key };

@@ -40,7 +40,6 @@ mod merge;
 mod numbers;
 mod reports;
 mod route_line;
-mod shown_peer;
 mod text;
 mod write;
 

@@ -11,14 +11,14 @@ ghost use Rattle.mrt_body.specs.ToCome.{TakesRecord, as_found, refusals};
 ghost use Rattle.mrt_body.specs.declared.body_kind.BodyKind.TheVariants as content_spec;
 ghost use Rattle.mrt_body.specs.Readings.{GivesFew, WantsMemory, StaysHere};
 
-use super::Units;
+use super::{Units, kept_block};
 use crate::body_kind::BodyKind;
+use crate::body_unit::{BodyUnit, block_of, lent};
 use crate::payload::{message_unit, states_unit};
 use crate::peer_index::peers_in;
 use crate::record_place::RecordAt;
 use crate::rib_dumps::RibDumps;
 use crate::rib_reader::Index;
-use crate::session_unit::SessionUnit;
 use crate::waiting::Waiting;
 use bgp_prefix::{Memory, Sequence};
 use bgp_update::{AttrError, Unicast};
@@ -53,10 +53,13 @@ impl<F: Unicast> Units<F> {
                 self.found(alloc, at, unit)
             }
             BodyKind::States { width } => {
-                let unit = states_unit(self.selection.states(), at, is_extended, width, body);
+                let rule = self.selection.states();
+                let unit = states_unit(rule, at, is_extended, width, body.as_slice());
+                self.spare = kept_block(body.into_vec());
                 self.found(alloc, at, unit)
             }
             BodyKind::Aside => {
+                self.spare = kept_block(body.into_vec());
                 self.aside += 1;
                 Ok(None)
             }
@@ -65,24 +68,25 @@ impl<F: Unicast> Units<F> {
 
     /// Whether a unit is selected. Where all prefixes are chosen its time and its peer decide, and nothing is read.
     #[inline(always)]
-    fn selects(&mut self, alloc: Global, unit: &SessionUnit<F>) -> Result<bool, Memory>
+    #[tactic(auto, using(peer_units::proofs::OpenLaws::open_concerns))]
+    fn selects(&mut self, alloc: Global, unit: &BodyUnit<F>) -> Result<bool, Memory>
         ensures selected { IfOk result (λ selected. selected ≡ is_selected self.old.selection unit.now) }
         ensures same { self.new ≡ self.old }
     {
         if self.selection.is_open() {
-            return Ok(self.selection.takes_unread(&unit.lend()));
+            return Ok(!self.selection.is_past(unit.time) && self.selection.takes_peer(&unit.peer));
         }
         self.selects_by_prefix(alloc, unit)
     }
 
     /// Whether a unit is selected, where some prefixes are chosen.
     #[inline(never)]
-    fn selects_by_prefix(&mut self, alloc: Global, unit: &SessionUnit<F>) -> Result<bool, Memory>
+    fn selects_by_prefix(&mut self, alloc: Global, unit: &BodyUnit<F>) -> Result<bool, Memory>
         ensures selected { IfOk result (λ selected. selected ≡ is_selected self.old.selection unit.now) }
         ensures same { self.new ≡ self.old }
     {
         self.selection
-            .selects(alloc, &mut self.decoded, &unit.lend())
+            .selects(alloc, &mut self.decoded, &lent(unit))
     }
 
     /// Keeps a unit to be returned if it is selected, or returns the refusal of its record.
@@ -92,7 +96,7 @@ impl<F: Unicast> Units<F> {
         &mut self,
         alloc: Global,
         at: RecordAt,
-        unit: Result<SessionUnit<F>, Fault>,
+        unit: Result<BodyUnit<F>, Fault>,
     ) -> Result<Option<Damage>, ReplayError>
         requires given { self.old.pending ≡ [] }
         requires small { IfOk unit IsSmallUnit }
@@ -111,6 +115,9 @@ impl<F: Unicast> Units<F> {
             Ok(unit) => match self.selects(alloc, &unit) {
                 Ok(selected) => {
                     if !selected {
+                        if let Some(block) = block_of(unit) {
+                            self.spare = kept_block(block);
+                        }
                         return Ok(None);
                     }
                     match hear(&self.selection, &mut self.dumps, &unit) {
@@ -250,14 +257,14 @@ fn follow<F: Unicast>(
 fn hear<F: Unicast>(
     selection: &Selection<F>,
     dumps: &mut RibDumps,
-    unit: &SessionUnit<F>,
+    unit: &BodyUnit<F>,
 ) -> Result<(), Memory>
     ensures { OnOk result (dumps.new
         ≡ record dumps.old { heard = heard_of selection.now.ribs dumps.old.heard (unit.now ∷ []) }) }
 {
     match selection.ribs() {
         RibRule::Add => Ok(()),
-        RibRule::Replace => dumps.hear(unit.unit.peer),
+        RibRule::Replace => dumps.hear(unit.peer),
     }
 }
 

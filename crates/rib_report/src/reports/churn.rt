@@ -10,9 +10,8 @@ ghost use Rattle.rib_report.specs.Lines.{churn_line};
 ghost use Rattle.rib_report.specs.Texts.{IsOutput};
 
 use crate::buffer::put;
-use crate::field::{Byte, Joined, time_field};
+use crate::field::{Byte, Joined, ShownPeer, time_field};
 use crate::line::Line;
-use crate::shown_peer::ShownPeer;
 use crate::text::Text;
 use crate::write::write_lines;
 use adj_rib::{Churn, RouteId};

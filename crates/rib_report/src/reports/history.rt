@@ -8,10 +8,9 @@ ghost use Rattle.rib_report.specs.HistoryLines.{by_text, history_line, what_text
 ghost use Rattle.rib_report.specs.Texts.{IsOutput};
 
 use crate::buffer::put;
-use crate::field::{Field, Microseconds, ShownKey};
+use crate::field::{Field, Microseconds, ShownKey, ShownPeer};
 use crate::line::{Line, RowList};
 use crate::route_line::put_route;
-use crate::shown_peer::ShownPeer;
 use crate::text::Text;
 use crate::write::write_lines;
 use adj_rib::What;

@@ -11,9 +11,8 @@ ghost use Rattle.rib_report.specs.Lines.{entry_of, file_of, offset_of, peer_line
 ghost use Rattle.rib_report.specs.Texts.{IsOutput};
 
 use crate::buffer::put;
-use crate::field::{Byte, Joined, SessionUp, entry_field, time_field};
+use crate::field::{Byte, Joined, SessionUp, ShownPeer, entry_field, time_field};
 use crate::line::Line;
-use crate::shown_peer::ShownPeer;
 use crate::text::Text;
 use crate::write::write_lines;
 use adj_rib::RouteId;

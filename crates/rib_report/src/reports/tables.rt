@@ -18,10 +18,9 @@ ghost use Rattle.rib_report.specs.Lines.{route_line};
 ghost use Rattle.rib_report.specs.Texts.{Adds, IsOutput};
 
 use crate::buffer::TextBuffer;
-use crate::field::PeerText;
+use crate::field::{PeerText, ShownPeer, ShownPeerOf};
 use crate::line::Line;
 use crate::route_line::put_row;
-use crate::shown_peer::{ShownPeer, ShownPeerOf};
 use crate::text::{Text, TextWriter, finish};
 use crate::write::{NEAR_ROWS, next_rows, write_lines};
 use adj_rib::RouteId;

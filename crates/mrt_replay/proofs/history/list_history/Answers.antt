@@ -1,11 +1,17 @@
 use Rattle.std.proofs.Common.{◌-◌, ◌≡◌, ◌≤◌, ◌^◌, List, sym, ap, ◌∙◌, length, map, arith}
 use Rattle.std.proofs.lemmas.List.{length-map}
+use Rattle.std.proofs.lemmas.Result.{err_from_is_err_and}
 use Rattle.peer_units.specs.Plain.{PrefixChoice}
 use Rattle.mrt_body.specs.Units.{units_of}
 use Rattle.peer_tables.specs.Histories.{history_rows, watches_of}
 use Rattle.mrt_replay.specs.Tellings.{Tells}
 use Rattle.mrt_replay.proofs.FilesTaken.{stops_replay, took_files, few_units_of, records_taken, aside_taken}
 use Rattle.mrt_replay.proofs.history.list_history.Goals as goal
+
+pub returns-in_err-told-clause-cause : goal.returns-in_err-told-clause-cause
+returns-in_err-told-clause-cause g c =
+    let p = err_from_is_err_and c.from_residual-in_err-told.result c.from_residual-in_err-told.ensures.1 in
+    rw (p.1, p.2) tt
 
 pub returns-in-Err-clause-cause : goal.returns-in-Err-clause-cause
 returns-in-Err-clause-cause g c =

@@ -7,9 +7,8 @@ ghost use Rattle.rib_report.specs.LineBlocks.{IsFilled, lines_between, range_of}
 
 use super::{prefetch_entries, put_entries};
 use crate::buffer::TextBuffer;
-use crate::field::PeerText;
+use crate::field::{PeerText, ShownPeerOf};
 use crate::route_line::put_row;
-use crate::shown_peer::ShownPeerOf;
 use crate::text::{Text, TextAhead};
 use crate::write::NEAR_ROWS;
 use bgp_prefix::{Prefix, RouteKey};

@@ -9,7 +9,7 @@ ghost use Rattle.rib_report.specs.LineBlocks.{AreRanges, IsFilled, AreSuccessive
 
 use super::line_block::{LineBlock, put_line_block};
 use super::put_entries;
-use crate::shown_peer::ShownPeerOf;
+use crate::field::ShownPeerOf;
 use crate::text::Text;
 use bgp_prefix::{Memory, Prefix, RouteKey};
 use bgp_update::RouteRef;
