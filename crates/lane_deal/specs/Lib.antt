@@ -5,7 +5,6 @@ pub mod Schedules
 pub mod Replayers
 pub mod Rounds
 pub mod Numbers
-pub mod ListedPeers
 pub mod PlacedProps
 pub mod ListedUnits
 pub mod UnitLists

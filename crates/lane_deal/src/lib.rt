@@ -51,7 +51,6 @@ mod holding;
 mod lane;
 mod lane_sender;
 mod laws;
-mod listed_peer;
 mod listed_unit;
 mod peer_unit;
 mod plan;

@@ -4,10 +4,9 @@
 ghost use Rattle.std.specs.Prelude.{◌≡◌, true, IfOk};
 ghost use Rattle.lane_deal.specs.ListedUnits.{AreKept, IsListedAt};
 
-use crate::listed_peer::ListedPeer;
 use bgp_prefix::{Memory, Prefix};
 use bgp_update::{FamilyMark, Span};
-use peer_units::{Payload, Place};
+use peer_units::{Payload, PeerKey, Place};
 
 /// Where the record of a unit is, and the unit's time.
 #[derive(Drop)]
@@ -21,7 +20,7 @@ pub struct ListedRecord {
 #[derive(Drop)]
 pub struct NumberedPeer {
     pub number: usize,
-    pub peer: ListedPeer,
+    pub peer: PeerKey,
 }
 
 /// A unit of a list, in 32 bytes (IPv4): where its record, its peer and its bytes are among those of the list.
@@ -79,11 +78,11 @@ pub fn index_of_record(
 
 /// Whether the peer at this index is this one, with this number.
 #[inline(always)]
-fn is_peer_at(peers: &[NumberedPeer], at: usize, number: usize, peer: &ListedPeer) -> bool
+fn is_peer_at(peers: &[NumberedPeer], at: usize, number: usize, peer: &PeerKey) -> bool
     ensures { result ≡ true → IsListedAt peers.now at (record { number = number; peer = peer.now }) }
 {
     match peers.get(at) {
-        Some(listed) => listed.number == number && listed.peer.is_same(peer),
+        Some(listed) => listed.number == number && listed.peer == *peer,
         None => false,
     }
 }
@@ -93,7 +92,7 @@ fn is_peer_at(peers: &[NumberedPeer], at: usize, number: usize, peer: &ListedPee
 fn find_or_add_peer(
     peers: &mut Vec<NumberedPeer>,
     number: usize,
-    peer: ListedPeer,
+    peer: PeerKey,
 ) -> Result<u16, Memory>
     ensures kept { AreKept peers.old.items peers.new.items }
     ensures found { IfOk result (λ at. IsListedAt peers.new.items at (record { number = number; peer = peer })) }
@@ -118,7 +117,7 @@ pub fn index_of_peer(
     peers: &mut Vec<NumberedPeer>,
     next_peer_hint: u16,
     number: usize,
-    peer: ListedPeer,
+    peer: PeerKey,
 ) -> Result<u16, Memory>
     ensures kept { AreKept peers.old.items peers.new.items }
     ensures found { IfOk result (λ at. IsListedAt peers.new.items at (record { number = number; peer = peer })) }

@@ -8,7 +8,6 @@ ghost use Rattle.bgp_update.specs.Decoded.{IsWithin, span_of};
 ghost use Rattle.peer_units.specs.HeldBytes.{BytesMeet, payload_of_held};
 ghost use Rattle.lane_deal.specs.ListedUnits.{IsListed};
 
-use crate::listed_peer::ListedPeer;
 use crate::listed_unit::{ListedRecord, ListedUnit, NumberedPeer, index_of_peer, index_of_record};
 use crate::peer_unit::{PeerUnit, PeerUnitRef};
 use bgp_prefix::{Memory, Prefix};
@@ -131,8 +130,7 @@ impl<F: Unicast> UnitList<Prefix<F>, FamilyMark<F>> {
     {
         self.listed.reserve(1)?;
         let record = index_of_record(&mut self.records, &unit.place, unit.time)?;
-        let peer = ListedPeer::new(&unit.peer);
-        let peer = index_of_peer(&mut self.peers, self.next_peer_hint, number, peer)?;
+        let peer = index_of_peer(&mut self.peers, self.next_peer_hint, number, unit.peer)?;
         let bytes = unit.payload.as_slice();
         let start = self.bytes.len();
         let place = Span::between(start, start.saturating_add(bytes.len()))?;
@@ -175,7 +173,7 @@ impl<F: Unicast> UnitList<Prefix<F>, FamilyMark<F>> {
                     entry: unit.entry,
                 },
                 time: record.time,
-                peer: source.peer.key(),
+                peer: source.peer,
                 payload: borrowed_from(&unit.payload, self.bytes.as_slice()),
             },
         }

@@ -6,9 +6,9 @@
 //!
 //! - **A selection is applied here, where units are made.** Whatever is above sees a list of units and needs no second
 //!   form of any definition; what isn't asked for is skipped before it is copied, numbered and dealt, and takes no
-//!   session. The entries of a RIB record of another prefix are checked, since a broken one refuses the record, and none
-//!   is given. Refusals, index tables and the counts of records don't depend on the selection. RIB records of another
-//!   family than the selection's are set aside (`body_kind_of`).
+//!   session. The entries of a RIB record of another prefix are checked, since a broken one refuses the record, and
+//!   none is given. Refusals, index tables and the counts of records don't depend on the selection. RIB records of
+//!   another family than the selection's are set aside (`body_kind_of`).
 //! - **A RIB dump that replaces what came before it gives clears** (`RibRule::Replace`): before the entries of its
 //!   first record come units with the payload `Clear`, one for each peer that gave a unit since the last such dump, in
 //!   the order of the peers. So a restart of all tables is a unit of each peer, and no definition over units, lanes and

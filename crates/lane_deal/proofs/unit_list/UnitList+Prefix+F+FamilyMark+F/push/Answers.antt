@@ -108,7 +108,7 @@ returns-clause-pushed g c =
     let p = c.index_of_peer.new.peers.items in
     let u : ListedUnit = record { payload = c.with_bytes.result; entry = unit.place.entry; «record» = c.in_ok-record.record; peer = c.in_ok-peer.peer } in
     let own_record : ListedRecord = record { file = unit.place.file; offset = unit.place.offset; time = unit.time } in
-    let own_peer : NumberedPeer = record { number = c.args.number; peer = c.new-peer.result } in
+    let own_peer : NumberedPeer = record { number = c.args.number; peer = unit.peer } in
     let listed = c.push_reserved.ensures.items ∙ ap (λ l. l ++ u ∷ []) c.in_ok-reserve.ensures.items in
     let kept_records = c.in_ok-record.ensures.kept in
     let kept_peers = c.in_ok-peer.ensures.kept in
@@ -121,5 +121,4 @@ returns-clause-pushed g c =
     ap (λ l. map (unit_in r p c.extend_from_slice.new.self.items) l) listed
     ∙ (ap (λ b. map (unit_in r p b) (self.listed.items ++ u ∷ [])) c.in_ok-extend_from_slice.ensures.items
     ∙ (listed_more r p self.bytes.items bytes self.listed.items u own_record own_peer unit.payload (within_kept self r p kept_records kept_peers) own c.in_ok-record.ensures.found c.in_ok-peer.ensures.found
-    ∙ (ap (λ l. l ++ unit_with own_record own_peer unit.place.entry unit.payload ∷ []) (units_kept self r p kept_records kept_peers)
-    ∙ ap (λ k. units_of self ++ record { number = c.args.number; unit = record { place = unit.place; time = unit.time; peer = k; payload = unit.payload } } ∷ []) c.new-peer.ensures)))
+    ∙ (ap (λ l. l ++ unit_with own_record own_peer unit.place.entry unit.payload ∷ []) (units_kept self r p kept_records kept_peers))))
