@@ -57,14 +57,12 @@ impl<F: Unicast, M: PrefixMap<RouteId, Addr = F>> CountedTable<M> {
         ensures { OnOk result (Takes N.keep (C.is_chosen chosen.now) (withdrawals (plain_update update.now))
             (counted_in self.old, N.kept notes.old) (counted_in self.new, N.kept notes.new)) }
     {
-        let (withdrawn, unreached) = (update.withdrawn, update.unreached);
-        if withdrawn.is_empty() && unreached.is_empty() {
+        if update.withdrawn.is_empty() {
             return Ok(());
         }
         let announced = KeySet::from_slice(alloc, update.announced)?;
         let reached = KeySet::from_slice(alloc, update.reached)?;
-        self.withdraw_others(alloc, chosen, notes, withdrawn, &announced, &reached)?;
-        self.withdraw_others(alloc, chosen, notes, unreached, &announced, &reached)?;
+        self.withdraw_others(alloc, chosen, notes, update.withdrawn, &announced, &reached)?;
         Ok(())
     }
 

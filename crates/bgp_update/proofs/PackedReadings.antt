@@ -1,8 +1,9 @@
 -- Attributes are packed as they stand, where their numbers have four bytes.
-use Rattle.std.proofs.Common.{◌≡◌, ℕ, Bool, List, ◌++◌, Option, Some, None, refl, sym, ap, subst, ◌∙◌, []}
+use Rattle.std.proofs.Common.{◌≡◌, ℕ, Bool, List, ◌++◌, Option, Some, None, Ok, refl, sym, ap, subst, ◌∙◌, []}
 use Rattle.std.specs.Prelude.{IfSome, is_some}
 use Rattle.std.specs.Option.{option_and_then, unwrap_or}
 use Rattle.std.specs.Result.{result_ok}
+use Rattle.mrt_frame.specs.declared.fault.Fault.{Fault}
 use Rattle.mrt_frame.proofs.FieldLaws.{IsBytes}
 use Rattle.bgp_update.specs.Families.{FamilyOf}
 use Rattle.bgp_update.specs.declared.attribute_type.AttributeType.{AttributeType}
@@ -16,8 +17,8 @@ use Rattle.bgp_update.specs.declared.values.FirstValues.{FirstValues}
 use Rattle.bgp_update.specs.declared.route.Route.{Route}
 use Rattle.bgp_update.specs.Paths.{PathSegment}
 use Rattle.bgp_update.specs.Segments.{path_of_value}
-use Rattle.bgp_update.specs.Attributes.{value_of, IsFormed, next_hop_value, route_from}
-use Rattle.bgp_update.specs.Values.{CanPackKept, kept_route, kept_value, KeepsFirst}
+use Rattle.bgp_update.specs.Attributes.{value_of, attributes_in, IsFormed, next_hop_value, route_from}
+use Rattle.bgp_update.specs.Values.{CanPackKept, kept_route, kept_value, keys_fault, unless_fault, KeepsFirst}
 use Rattle.bgp_update.specs.Packing.{WritesRoute, IsSpelled, spelled_path, IsWritable, HaveWidths, without_path, fields_bytes, path_part}
 use Rattle.bgp_update.proofs.SegmentLaws.{path_in-bytes}
 use Rattle.bgp_update.proofs.AttributeLaws.{attributes_in-is, values_fine}
@@ -29,15 +30,19 @@ spelled_if : (family : FamilyOf) (carrier : AttributeContext) (o : Option (List 
 spelled_if family carrier None h = tt
 spelled_if family carrier (Some value) h = subst IsSpelled (sym h.2) (spelled-bytes h.0 h.1)
 
-pub keeps_spelled : (family : FamilyOf) (carrier : AttributeContext) (width : Width) (bytes : List ℕ) (first : FirstValues) → IsBytes bytes → KeepsFirst family carrier width bytes first → width ≡ Four → IfSome (kept_value first AsPath) IsSpelled
-keeps_spelled family carrier width bytes first fine keeps e =
+-- without a fault of keys these are the attributes of the field
+whole : (family : FamilyOf) (carrier : AttributeContext) (width : Width) (bytes : List ℕ) (first : FirstValues) → keys_fault family carrier (kept_value first) ≡ None → (keeps : KeepsFirst family carrier width bytes first) → attributes_in family carrier width bytes ≡ Ok keeps.0
+whole family carrier width bytes first fine keeps = keeps.1 ∙ ap (λ (o : Option Fault). unless_fault o (Ok keeps.0)) fine
+
+pub keeps_spelled : (family : FamilyOf) (carrier : AttributeContext) (width : Width) (bytes : List ℕ) (first : FirstValues) → IsBytes bytes → keys_fault family carrier (kept_value first) ≡ None → KeepsFirst family carrier width bytes first → width ≡ Four → IfSome (kept_value first AsPath) IsSpelled
+keeps_spelled family carrier width bytes first fine keys keeps e =
     let four : KeepsFirst family carrier Four bytes first = subst (λ (w : Width). KeepsFirst family carrier w bytes first) e keeps in
-    let law = attributes_in-is family carrier Four bytes four.0 fine four.1 in
+    let law = attributes_in-is family carrier Four bytes four.0 fine (whole family carrier Four bytes first keys four) in
     subst (λ (o : Option (List ℕ)). IfSome o IsSpelled) (sym (four.2 AsPath)) (spelled_if family carrier (value_of AsPath four.0) (law.1.formed AsPath))
 
-pub keeps_writable : (family : FamilyOf) (carrier : AttributeContext) (width : Width) (bytes : List ℕ) (first : FirstValues) → IsBytes bytes → KeepsFirst family carrier width bytes first → IsWritable (route_from width (kept_value first)).path
-keeps_writable family carrier width bytes first fine keeps =
-    let law = attributes_in-is family carrier width bytes keeps.0 fine keeps.1 in
+pub keeps_writable : (family : FamilyOf) (carrier : AttributeContext) (width : Width) (bytes : List ℕ) (first : FirstValues) → IsBytes bytes → keys_fault family carrier (kept_value first) ≡ None → KeepsFirst family carrier width bytes first → IsWritable (route_from width (kept_value first)).path
+keeps_writable family carrier width bytes first fine keys keeps =
+    let law = attributes_in-is family carrier width bytes keeps.0 fine (whole family carrier width bytes first keys keeps) in
     let written : IsWritable (route_from width (λ t. value_of t keeps.0)).path = said_writable width (λ t. value_of t keeps.0) (λ t. values_fine t keeps.0 (subst IsBytes law.0 fine)) in
     subst (λ (r : Route). IsWritable r.path) (sym (route_from_same width (kept_value first) (λ t. value_of t keeps.0) keeps.2)) written
 

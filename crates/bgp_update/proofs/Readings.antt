@@ -19,11 +19,6 @@ pub mapped_err : {A B : Type 0} (r : Result A Fault) (f : A → B) (fault : Faul
 mapped_err (Ok x) f fault e = absurd cc
 mapped_err (Err other) f fault e = cc
 
--- a reading that fails fails with what comes behind it
-pub fails_along : {X Y : Type 0} (e : AttrError) (r : Result X Fault) (f : X → Result Y Fault) → Fails e r → Fails e (r >>= f)
-fails_along errors.Memory r f h = tt
-fails_along {X} {Y} (errors.Bad fault) r f h = ap (λ (t : Result X Fault). ◌>>=◌ {B = Y} t f) h
-
 -- what a call returned has what every value has that the reading gives
 pub given : {X : Type 0} (r : Result X AttrError) (read : Result X Fault) (P : X → Type 0) → Gives (λ x. x) r read → ((x : X) → read ≡ Ok x → P x) → IfOk r P
 given (Ok x) read P e law = law x e

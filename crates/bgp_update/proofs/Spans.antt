@@ -75,7 +75,6 @@ pub IsUpdateAt-grown : (keys more_keys : List RouteKey) (bytes more_bytes : List
 IsUpdateAt-grown keys more_keys bytes more_bytes s k b h = record {
   withdrawn = IsWithin-grown keys more_keys s.withdrawn k h.withdrawn;
   announced = IsWithin-grown keys more_keys s.announced k h.announced;
-  unreached = IsWithin-grown keys more_keys s.unreached k h.unreached;
   reached = IsWithin-grown keys more_keys s.reached k h.reached;
   route = IsRouteAt-grown bytes more_bytes s.route b h.route;
   reached_route = (reached-grown bytes more_bytes s.route s.reached_route b h.route h.reached_route).0;
@@ -88,7 +87,6 @@ update_at-grown keys more_keys bytes more_bytes s k b h =
     rw (
       span_of-grown keys more_keys s.withdrawn k h.withdrawn,
       span_of-grown keys more_keys s.announced k h.announced,
-      span_of-grown keys more_keys s.unreached k h.unreached,
       span_of-grown keys more_keys s.reached k h.reached,
       route_at-grown bytes more_bytes s.route b h.route,
       (reached-grown bytes more_bytes s.route s.reached_route b h.route h.reached_route).1,
@@ -108,26 +106,22 @@ span_mid {A} front mid back all s parts start len =
 abbrev pub HasKeys : List RouteKey → Span → List RouteKey → Type 0
 HasKeys all s keys = (span_of all s ≡ keys) × IsWithin (length all) s
 
-have_keys : (before after : List RouteKey) (n : AppendedKeys) (route : Route) (read : Result Update Fault) (k : AreKeysOf before after n route read) (w a u z : Span)
-    → w ≡ record { start = length before; len = n.withdrawn } → a ≡ record { start = length before + n.withdrawn; len = n.announced }
-    → u ≡ record { start = length before + n.withdrawn + n.announced; len = n.unreached } → z ≡ record { start = length before + n.withdrawn + n.announced + n.unreached; len = n.reached }
-    → HasKeys after w k.withdrawn × HasKeys after a k.announced × HasKeys after u k.unreached × HasKeys after z k.reached
-have_keys before after n route read k w a u z of_w of_a of_u of_z =
+have_keys : (before after : List RouteKey) (n : AppendedKeys) (route : Route) (read : Result Update Fault) (k : AreKeysOf before after n route read) (w z a : Span)
+    → w ≡ record { start = length before; len = n.withdrawn } → z ≡ record { start = length before + n.withdrawn; len = n.reached }
+    → a ≡ record { start = length before + n.withdrawn + n.reached; len = n.announced }
+    → HasKeys after w k.withdrawn × HasKeys after z k.reached × HasKeys after a k.announced
+have_keys before after n route read k w z a of_w of_z of_a =
     let kw = k.withdrawn in
-    let ka = k.announced in
-    let ku = k.unreached in
     let kz = k.reached in
+    let ka = k.announced in
     let n1 = length-append before kw in
-    let n2 = length-append (before ++ kw) ka in
-    let n3 = length-append ((before ++ kw) ++ ka) ku in
-    let second : after ≡ (before ++ kw) ++ (ka ++ (ku ++ kz)) = k.parts ∙ sym (append_assoc before kw (ka ++ (ku ++ kz))) in
-    let third : after ≡ ((before ++ kw) ++ ka) ++ (ku ++ kz) = second ∙ sym (append_assoc (before ++ kw) ka (ku ++ kz)) in
-    let fourth : after ≡ (((before ++ kw) ++ ka) ++ ku) ++ (kz ++ []) = third ∙ sym (append_assoc ((before ++ kw) ++ ka) ku kz) ∙ ap (λ (t : List RouteKey). (((before ++ kw) ++ ka) ++ ku) ++ t) (sym (append-nil kz)) in
-    let lens : (length kw ≡ n.withdrawn) × (length ka ≡ n.announced) × (length ku ≡ n.unreached) = (k.withdrawn_len, k.announced_len, k.unreached_len) in (
-      span_mid before kw (ka ++ (ku ++ kz)) after w k.parts (ap (λ (p : Span). p.start) of_w) (ap (λ (p : Span). p.len) of_w ∙ sym k.withdrawn_len),
-      span_mid (before ++ kw) ka (ku ++ kz) after a second (omega (arith, ap (λ (p : Span). p.start) of_a, n1)) (ap (λ (p : Span). p.len) of_a ∙ sym k.announced_len),
-      span_mid ((before ++ kw) ++ ka) ku kz after u third (omega (arith, ap (λ (p : Span). p.start) of_u, n1, n2)) (ap (λ (p : Span). p.len) of_u ∙ sym k.unreached_len),
-      span_mid (((before ++ kw) ++ ka) ++ ku) kz [] after z fourth (omega (arith, ap (λ (p : Span). p.start) of_z, n1, n2, n3)) (ap (λ (p : Span). p.len) of_z ∙ sym k.reached_len),
+    let n2 = length-append (before ++ kw) kz in
+    let second : after ≡ (before ++ kw) ++ (kz ++ ka) = k.parts ∙ sym (append_assoc before kw (kz ++ ka)) in
+    let third : after ≡ ((before ++ kw) ++ kz) ++ (ka ++ []) = second ∙ sym (append_assoc (before ++ kw) kz ka) ∙ ap (λ (t : List RouteKey). ((before ++ kw) ++ kz) ++ t) (sym (append-nil ka)) in
+    let lens : (length kw ≡ n.withdrawn) × (length kz ≡ n.reached) = (k.withdrawn_len, k.reached_len) in (
+      span_mid before kw (kz ++ ka) after w k.parts (ap (λ (p : Span). p.start) of_w) (ap (λ (p : Span). p.len) of_w ∙ sym k.withdrawn_len),
+      span_mid (before ++ kw) kz ka after z second (omega (arith, ap (λ (p : Span). p.start) of_z, n1)) (ap (λ (p : Span). p.len) of_z ∙ sym k.reached_len),
+      span_mid ((before ++ kw) ++ kz) ka [] after a third (omega (arith, ap (λ (p : Span). p.start) of_a, n1, n2)) (ap (λ (p : Span). p.len) of_a ∙ sym k.announced_len),
     )
 
 -- ---- the update that was decoded
@@ -153,18 +147,17 @@ pub decoded_update : (before after : List RouteKey) (old mid bytes : List ℕ) (
     → IfSome rr (AddsRoute mid bytes (by_hop route n.reached_hop)) → is_some rr ≡ is_some n.reached_hop
     → (read ≡ Ok (update_at after bytes s)) × IsUpdateAt after bytes s
 decoded_update before after old mid bytes n route read r rr s k spans adds grown reached both =
-    let keys = have_keys before after n route read k s.withdrawn s.announced s.unreached s.reached spans.withdrawn spans.announced spans.unreached spans.reached in
+    let keys = have_keys before after n route read k s.withdrawn s.reached s.announced spans.withdrawn spans.reached spans.announced in
     let own : route_at bytes s.route ≡ route = ap (route_at bytes) spans.route ∙ route_at-grown mid bytes r grown adds.there ∙ adds.is in
     let own_there : IsRouteAt bytes s.route = subst (IsRouteAt bytes) (sym spans.route) (IsRouteAt-grown mid bytes r grown adds.there) in
     let by_own : IfSome s.reached_route (AddsRoute mid bytes (by_hop route n.reached_hop)) = subst (λ (o : Option RouteSpan). IfSome o (AddsRoute mid bytes (by_hop route n.reached_hop))) (sym spans.reached_route) reached in
     let same : is_some s.reached_route ≡ is_some n.reached_hop = ap is_some spans.reached_route ∙ both in
     let hop : hop_at bytes s.reached_route ≡ n.reached_hop = hop_is mid bytes route s.reached_route n.reached_hop by_own same in (
-      k.is ∙ ap (λ (u : Update). Ok u) (rw (keys.0.0, keys.1.0, keys.2.0, keys.3.0, own, hop) refl),
+      k.is ∙ ap (λ (u : Update). Ok u) (rw (keys.0.0, keys.1.0, keys.2.0, own, hop) refl),
       record {
         withdrawn = keys.0.1;
-        announced = keys.1.1;
-        unreached = keys.2.1;
-        reached = keys.3.1;
+        announced = keys.2.1;
+        reached = keys.1.1;
         route = own_there;
         reached_route = reached_is mid bytes s.route route s.reached_route n.reached_hop own by_own;
         none = λ e. ap (λ (p : Span). p.len) spans.reached ∙ sym k.reached_len ∙ ap length (k.none (none_is s.reached_route n.reached_hop same e));
@@ -175,9 +168,9 @@ decoded_update before after old mid bytes n route read r rr s k spans adds grown
 
 pub split_is : (after : List RouteKey) (n : AppendedKeys) (route : Route) (read : Result Update Fault) → AreKeysOf [] after n route read → read ≡ Ok (split_update after n route)
 split_is after n route read k =
-    let keys = have_keys [] after n route read k (record { start = 0; len = n.withdrawn }) (record { start = n.withdrawn; len = n.announced }) (record { start = n.withdrawn + n.announced; len = n.unreached }) (record { start = n.withdrawn + n.announced + n.unreached; len = n.reached })
-    refl (ap (λ (m : ℕ). record { start = m; len = n.announced }) (omega arith)) (ap (λ (m : ℕ). record { start = m; len = n.unreached }) (omega arith)) (ap (λ (m : ℕ). record { start = m; len = n.reached }) (omega arith)) in
-    k.is ∙ (λ i. Ok (record { withdrawn = sym keys.0.0 i ++ sym keys.2.0 i; announced = sym keys.1.0 i; reached = sym keys.3.0 i; route = route; reached_hop = n.reached_hop }))
+    let keys = have_keys [] after n route read k (record { start = 0; len = n.withdrawn }) (record { start = n.withdrawn; len = n.reached }) (record { start = n.withdrawn + n.reached; len = n.announced })
+    refl (ap (λ (m : ℕ). record { start = m; len = n.reached }) (omega arith)) (ap (λ (m : ℕ). record { start = m; len = n.announced }) (omega arith)) in
+    k.is ∙ (λ i. Ok (record { withdrawn = sym keys.0.0 i; announced = sym keys.2.0 i; reached = sym keys.1.0 i; route = route; reached_hop = n.reached_hop }))
 
 -- ---- a route that was packed behind other bytes
 

@@ -38,17 +38,15 @@ pub record AppendsReached {A : Type 0} (before after : List A) (hop : Option Nex
 pub record AreKeysOf (before after : List RouteKey) (n : AppendedKeys) (route : Route) (read : Result Update Fault) :
     Type 0 where
   pub withdrawn : List RouteKey
-  pub announced : List RouteKey
-  pub unreached : List RouteKey
   pub reached : List RouteKey
+  pub announced : List RouteKey
   pub withdrawn_len : length withdrawn ≡ n.withdrawn
-  pub announced_len : length announced ≡ n.announced
-  pub unreached_len : length unreached ≡ n.unreached
   pub reached_len : length reached ≡ n.reached
-  pub parts : after ≡ before ++ (withdrawn ++ (announced ++ (unreached ++ reached)))
+  pub announced_len : length announced ≡ n.announced
+  pub parts : after ≡ before ++ (withdrawn ++ (reached ++ announced))
   pub none : n.reached_hop ≡ None → reached ≡ []
   pub is : read ≡ Ok (record {
-    withdrawn = withdrawn ++ unreached;
+    withdrawn = withdrawn;
     announced = announced;
     reached = reached;
     route = route;
@@ -58,9 +56,9 @@ pub record AreKeysOf (before after : List RouteKey) (n : AppendedKeys) (route : 
 -- the update of keys that were added so, one kind after the other, and of its route
 abbrev pub split_update : List RouteKey → AppendedKeys → Route → Update
 split_update keys n route = record {
-  withdrawn = take n.withdrawn keys ++ take n.unreached (drop (n.withdrawn + n.announced) keys);
-  announced = take n.announced (drop n.withdrawn keys);
-  reached = take n.reached (drop (n.withdrawn + n.announced + n.unreached) keys);
+  withdrawn = take n.withdrawn keys;
+  announced = take n.announced (drop (n.withdrawn + n.reached) keys);
+  reached = take n.reached (drop n.withdrawn keys);
   route = route;
   reached_hop = n.reached_hop;
 }
@@ -101,7 +99,7 @@ hop_at bytes (Some s) = (route_at bytes s).next_hop
 
 abbrev pub update_at : List RouteKey → List ℕ → UpdateSpans → Update
 update_at keys bytes s = record {
-  withdrawn = span_of keys s.withdrawn ++ span_of keys s.unreached;
+  withdrawn = span_of keys s.withdrawn;
   announced = span_of keys s.announced;
   reached = span_of keys s.reached;
   route = route_at bytes s.route;
@@ -117,7 +115,6 @@ pub record IsReachedAt (bytes : List ℕ) (plain s : RouteSpan) : Type 0 where
 pub record IsUpdateAt (keys : List RouteKey) (bytes : List ℕ) (s : UpdateSpans) : Type 0 where
   pub withdrawn : IsWithin (length keys) s.withdrawn
   pub announced : IsWithin (length keys) s.announced
-  pub unreached : IsWithin (length keys) s.unreached
   pub reached : IsWithin (length keys) s.reached
   pub route : IsRouteAt bytes s.route
   pub reached_route : IfSome s.reached_route (IsReachedAt bytes s.route)
@@ -127,9 +124,8 @@ pub record IsUpdateAt (keys : List RouteKey) (bytes : List ℕ) (s : UpdateSpans
 pub record AreUpdateSpans (start : ℕ) (n : AppendedKeys) (own : RouteSpan) (by_reached : Option RouteSpan)
     (s : UpdateSpans) : Type 0 where
   pub withdrawn : s.withdrawn ≡ record { start = start; len = n.withdrawn }
-  pub announced : s.announced ≡ record { start = start + n.withdrawn; len = n.announced }
-  pub unreached : s.unreached ≡ record { start = start + n.withdrawn + n.announced; len = n.unreached }
-  pub reached : s.reached ≡ record { start = start + n.withdrawn + n.announced + n.unreached; len = n.reached }
+  pub reached : s.reached ≡ record { start = start + n.withdrawn; len = n.reached }
+  pub announced : s.announced ≡ record { start = start + n.withdrawn + n.reached; len = n.announced }
   pub route : s.route ≡ own
   pub reached_route : s.reached_route ≡ by_reached
 
@@ -145,7 +141,7 @@ hop_of (Some hashed) = hashed.route.next_hop
 
 abbrev pub plain_update : UpdateRef → Update
 plain_update u = record {
-  withdrawn = u.withdrawn.now ++ u.unreached.now;
+  withdrawn = u.withdrawn.now;
   announced = u.announced.now;
   reached = u.reached.now;
   route = u.route.route;

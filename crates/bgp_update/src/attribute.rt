@@ -5,15 +5,13 @@ ghost use Rattle.std.specs.Result.{result_err};
 ghost use Rattle.mrt_frame.specs.declared.fault.Fault.TheVariants.{ShortAttribute};
 ghost use Rattle.mrt_frame.specs.Fields as fields;
 ghost use Rattle.mrt_frame.specs.Fields.{Reads};
-ghost use Rattle.bgp_update.specs.Families.{form_of};
-ghost use Rattle.bgp_update.specs.Keys.{keys_in};
 ghost use Rattle.bgp_update.specs.Segments.{number_len, path_in};
 ghost use Rattle.bgp_update.specs.Attributes as attributes;
 ghost use Rattle.bgp_update.specs.Attributes.{length_len};
+ghost use Rattle.bgp_update.specs.Values as values;
 
 use crate::attribute_context::AttributeContext;
 use crate::attribute_type::AttributeType;
-use crate::key::key_count;
 use crate::multiprotocol::{entry_hop, reach_in, unreach_in};
 use crate::route_fields::origin_of;
 use crate::segment::segment_count;
@@ -64,14 +62,6 @@ fn fault_unless(is_formed: bool, fault: Fault) -> Option<Fault>
     if is_formed { None } else { Some(fault) }
 }
 
-/// Returns the fault of a field of keys.
-#[tactic(auto, using(crate::proofs::Counts::counted_fault), unfolding(crate::specs::Keys::key_count_in))]
-fn keys_fault<F: Unicast>(bytes: &[u8], add_path: bool) -> Option<Fault>
-    ensures { result ≡ result_err (keys_in (form_of F.family add_path) bytes.now) }
-{
-    key_count::<F>(bytes, add_path).err()
-}
-
 /// Returns the fault of AS_PATH.
 #[tactic(auto, using(crate::proofs::Counts::counted_fault), unfolding(crate::specs::Segments::segment_count_in))]
 fn path_fault(value: &[u8], width: Width) -> Option<Fault>
@@ -80,10 +70,9 @@ fn path_fault(value: &[u8], width: Width) -> Option<Fault>
     segment_count(value, width).err()
 }
 
-/// Returns the fault of MP_REACH_NLRI.
-#[tactic(auto, using(crate::proofs::Counts::err_of_mapped))]
-fn reached_fault<F: Unicast>(carrier: AttributeContext, value: &[u8]) -> Option<Fault>
-    ensures { result ≡ attributes.reached_fault F.family carrier value.now }
+/// Returns the fault of what MP_REACH_NLRI has before its keys.
+fn reach_head_fault<F: Unicast>(carrier: AttributeContext, value: &[u8]) -> Option<Fault>
+    ensures { result ≡ values.reach_head_fault F.family carrier value.now }
 {
     match carrier {
         AttributeContext::RibEntry => if F::encoding().own_fields {
@@ -91,39 +80,31 @@ fn reached_fault<F: Unicast>(carrier: AttributeContext, value: &[u8]) -> Option<
         } else {
             entry_hop::<F>(value).err()
         },
-        AttributeContext::Message { add_path } => match reach_in::<F>(value) {
-            Ok(Some((_, keys))) => keys_fault::<F>(keys, add_path),
-            Ok(None) => None,
-            Err(fault) => Some(fault),
-        },
+        AttributeContext::Message { .. } => reach_in::<F>(value).err(),
     }
 }
 
-/// Returns the fault of MP_UNREACH_NLRI.
-fn unreached_fault<F: Unicast>(carrier: AttributeContext, value: &[u8]) -> Option<Fault>
-    ensures { result ≡ attributes.unreached_fault F.family carrier value.now }
+/// Returns the fault of what MP_UNREACH_NLRI has before its keys.
+fn unreach_head_fault<F: Unicast>(carrier: AttributeContext, value: &[u8]) -> Option<Fault>
+    ensures { result ≡ values.unreach_head_fault F.family carrier value.now }
 {
     match carrier {
         AttributeContext::RibEntry => None,
-        AttributeContext::Message { add_path } => match unreach_in::<F>(value) {
-            Ok(Some(keys)) => keys_fault::<F>(keys, add_path),
-            Ok(None) => None,
-            Err(fault) => Some(fault),
-        },
+        AttributeContext::Message { .. } => unreach_in::<F>(value).err(),
     }
 }
 
 /// Returns what is wrong with the value of an attribute of this type: the check of each type (RFC 4271, 4.3 and 5.1;
-/// RFC 4760, 3 and 4; RFC 6793, 3).
+/// RFC 4760, 3 and 4; RFC 6793, 3). The keys of MP_REACH_NLRI and MP_UNREACH_NLRI are checked when they are appended.
 #[inline(always)]
-#[tactic(auto, unfolding(crate::specs::Attributes::value_fault))]
-pub fn value_fault<F: Unicast>(
+#[tactic(auto, unfolding(crate::specs::Attributes::value_fault, crate::specs::Values::head_fault))]
+pub fn head_fault<F: Unicast>(
     carrier: AttributeContext,
     width: Width,
     attribute_type: AttributeType,
     value: &[u8],
 ) -> Option<Fault>
-    ensures { result ≡ attributes.value_fault F.family carrier width attribute_type value.now }
+    ensures { result ≡ values.head_fault F.family carrier width attribute_type value.now }
 {
     let bad = attribute_type.fault();
     match attribute_type {
@@ -133,8 +114,8 @@ pub fn value_fault<F: Unicast>(
             fault_unless(value.len() == 4, bad),
         AttributeType::AtomicAggregate => fault_unless(value.is_empty(), bad),
         AttributeType::Aggregator => fault_unless(value.len() == 6 || value.len() == 8, bad),
-        AttributeType::MpReachNlri => reached_fault::<F>(carrier, value),
-        AttributeType::MpUnreachNlri => unreached_fault::<F>(carrier, value),
+        AttributeType::MpReachNlri => reach_head_fault::<F>(carrier, value),
+        AttributeType::MpUnreachNlri => unreach_head_fault::<F>(carrier, value),
         AttributeType::As4Path | AttributeType::As4Aggregator => None,
     }
 }

@@ -142,12 +142,10 @@ impl<'a> HashedRoute<'a> {
 /// An UPDATE among others: where its keys are, and its routes.
 #[derive(Clone, Copy)]
 pub struct UpdateSpans {
-    /// Those of the field of withdrawn routes.
+    /// Those of the field of withdrawn routes, and then those of MP_UNREACH_NLRI.
     pub(crate) withdrawn: Span,
     /// Those of the NLRI field.
     pub(crate) announced: Span,
-    /// Those of MP_UNREACH_NLRI, which are withdrawn too.
-    pub(crate) unreached: Span,
     /// Those of MP_REACH_NLRI.
     pub(crate) reached: Span,
     pub(crate) route: RouteSpan,
@@ -178,7 +176,6 @@ impl UpdateSpans {
         UpdateRef {
             withdrawn: self.withdrawn.of(keys),
             announced: self.announced.of(keys),
-            unreached: self.unreached.of(keys),
             reached: self.reached.of(keys),
             route: self.route.route(bytes),
             reached_route: match &self.reached_route {

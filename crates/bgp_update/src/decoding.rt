@@ -44,19 +44,16 @@ fn spans_of(
     route: RouteSpan,
     reached_route: Option<RouteSpan>,
 ) -> Result<UpdateSpans, Memory>
-    requires { start + appended.now.withdrawn + appended.now.announced + appended.now.unreached + appended.now.reached
-        < 2 ^ 64 }
+    requires { start + appended.now.withdrawn + appended.now.reached + appended.now.announced < 2 ^ 64 }
     ensures { IfOk result (AreUpdateSpans start appended.now route reached_route) }
 {
     let withdrawn = start + appended.withdrawn;
-    let announced = withdrawn + appended.announced;
-    let unreached = announced + appended.unreached;
-    let reached = unreached + appended.reached;
+    let reached = withdrawn + appended.reached;
+    let announced = reached + appended.announced;
     Ok(UpdateSpans {
         withdrawn: Span::between(start, withdrawn)?,
-        announced: Span::between(withdrawn, announced)?,
-        unreached: Span::between(announced, unreached)?,
-        reached: Span::between(unreached, reached)?,
+        announced: Span::between(reached, announced)?,
+        reached: Span::between(withdrawn, reached)?,
         route,
         reached_route,
     })

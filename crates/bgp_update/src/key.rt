@@ -7,7 +7,7 @@ ghost use Rattle.bgp_update.specs.Results.{Fails};
 ghost use Rattle.bgp_update.specs.Decoded.{Appends, IsGrown};
 ghost use Rattle.bgp_update.specs.Families.{form_of};
 ghost use Rattle.bgp_update.specs.Keys as keys_spec;
-ghost use Rattle.bgp_update.specs.Keys.{route_keys_in, key_count_in};
+ghost use Rattle.bgp_update.specs.Keys.{route_keys_in};
 
 use crate::attr_error::AttrError;
 use crate::octets::leading_octets_number;
@@ -66,24 +66,6 @@ pub fn key_at<F: Unicast>(
         }
         Err(fault) => Err(fault),
     }
-}
-
-/// How many keys a field has.
-pub fn key_count<F: Unicast>(bytes: &[u8], add_path: bool) -> Result<usize, Fault>
-    ensures { Reads (λ n. n) result (key_count_in (form_of F.family add_path) bytes.now) }
-{
-    let mut count = 0;
-    let mut rest = bytes;
-    while !rest.is_empty() {
-        match key_at::<F>(rest, add_path) {
-            Ok((_, after)) => {
-                count += 1;
-                rest = after;
-            }
-            Err(fault) => return Err(fault),
-        }
-    }
-    Ok(count)
 }
 
 /// Appends the keys of a field to other ones.

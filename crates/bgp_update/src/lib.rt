@@ -22,9 +22,10 @@
 //!   generated dumps nine in ten routes are that short. A `Route` takes 200 bytes in two allocations.
 //! - **Decoding appends** (`decode_entry`, `decode_update`): keys go behind other keys in one list, packed routes
 //!   behind others in one block of bytes, and what is returned says where they are (`UpdateSpans`, `RouteSpan`), with a
-//!   hash of each route's bytes. So a list of units is decoded without an allocation of its own, and each key of an own
-//!   field is read once. What was appended by a message that turns out to be damaged is left there, and nothing refers
-//!   to it.
+//!   hash of each route's bytes. So a list of units is decoded without an allocation of its own. What was appended by
+//!   a message that turns out to be damaged is left there, and nothing refers to it.
+//! - **Each key is read once** (`read_keys`). When attributes are checked, those of MP_REACH_NLRI and MP_UNREACH_NLRI
+//!   are passed over, and they are appended behind that, even if an attribute had a fault: theirs comes before it.
 //! - Attributes are packed as they are read, without a `Route` in between, except for a path of two-octet numbers,
 //!   which may have to be merged. A next hop is packed as it is written (`WrittenHop`). `read_update` and `read_attrs`
 //!   return the `Update` and the `Route` that definitions speak of.

@@ -79,10 +79,12 @@ fn append_own_keys<F: Unicast>(
 /// MP_REACH_NLRI.
 #[derive(Drop)]
 pub(crate) struct AppendedKeys<'a> {
+    /// Those of the field of withdrawn routes, and then those of MP_UNREACH_NLRI.
     pub(crate) withdrawn: usize,
-    pub(crate) announced: usize,
-    pub(crate) unreached: usize,
+    /// Those of MP_REACH_NLRI.
     pub(crate) reached: usize,
+    /// Those of the NLRI field.
+    pub(crate) announced: usize,
     pub(crate) reached_hop: Option<WrittenHop<'a>>,
 }
 
@@ -107,23 +109,19 @@ pub(crate) fn read_keys<'a, F: Unicast>(
     let fields = fields_in(body)?;
     let start = keys.len();
     append_own_keys(keys, fields.withdrawn, add_path)?;
-    let withdrawn = keys.len();
-    keep_values::<F>(
-        first,
-        fields.attributes,
-        AttributeContext::Message { add_path },
-        width,
-    )?;
-    append_own_keys(keys, fields.announced, add_path)?;
-    let announced = keys.len();
+    let context = AttributeContext::Message { add_path };
+    let kept = keep_values::<F>(first, fields.attributes, context, width);
     append_unreached(keys, first.value(AttributeType::MpUnreachNlri), add_path)?;
-    let unreached = keys.len();
+    let withdrawn = keys.len();
     let reached_hop = append_reached(keys, first.value(AttributeType::MpReachNlri), add_path)?;
+    let reached = keys.len();
+    // These keys stand before the attribute that has a fault.
+    kept?;
+    append_own_keys(keys, fields.announced, add_path)?;
     Ok(AppendedKeys {
         withdrawn: withdrawn - start,
-        announced: announced - withdrawn,
-        unreached: unreached - announced,
-        reached: keys.len() - unreached,
+        reached: reached - withdrawn,
+        announced: keys.len() - reached,
         reached_hop,
     })
 }
@@ -146,23 +144,20 @@ fn update_of<F: Unicast>(
     appended: &AppendedKeys<'_>,
     route: Route,
 ) -> Result<Update<Prefix<F>>, Memory>
-    requires { appended.now.withdrawn + appended.now.announced + appended.now.unreached + appended.now.reached
-        ≤ length keys.now }
+    requires { appended.now.withdrawn + appended.now.reached + appended.now.announced ≤ length keys.now }
     ensures { IfOk result (λ update. update ≡ split_update keys.now appended.now route) }
 {
-    let unreached = appended.withdrawn + appended.announced;
-    let reached = unreached + appended.unreached;
+    let end = appended.withdrawn + appended.reached;
     let mut withdrawn = Vec::new(alloc);
     copy_keys(&mut withdrawn, &keys[..appended.withdrawn])?;
-    copy_keys(&mut withdrawn, &keys[unreached..reached])?;
+    let mut reached = Vec::new(alloc);
+    copy_keys(&mut reached, &keys[appended.withdrawn..end])?;
     let mut announced = Vec::new(alloc);
-    copy_keys(&mut announced, &keys[appended.withdrawn..unreached])?;
-    let mut last = Vec::new(alloc);
-    copy_keys(&mut last, &keys[reached..reached + appended.reached])?;
+    copy_keys(&mut announced, &keys[end..end + appended.announced])?;
     Ok(Update {
         withdrawn: Sequence::from_vec(withdrawn),
         announced: Sequence::from_vec(announced),
-        reached: Sequence::from_vec(last),
+        reached: Sequence::from_vec(reached),
         route,
         reached_hop: next_hop_of(&appended.reached_hop),
     })

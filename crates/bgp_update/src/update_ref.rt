@@ -10,12 +10,10 @@ use bgp_prefix::{Prefix, RouteKey};
 /// An UPDATE whose keys and routes are borrowed.
 #[derive(Drop)]
 pub struct UpdateRef<'a, P = Prefix> {
-    /// The keys of the field of withdrawn routes.
+    /// The keys of the field of withdrawn routes, and then those of MP_UNREACH_NLRI (RFC 4760, 4).
     pub withdrawn: &'a [RouteKey<P>],
     /// The keys of the NLRI field.
     pub announced: &'a [RouteKey<P>],
-    /// The keys of MP_UNREACH_NLRI (RFC 4760, 4), which are withdrawn too.
-    pub unreached: &'a [RouteKey<P>],
     /// The keys of MP_REACH_NLRI (RFC 4760, 3).
     pub reached: &'a [RouteKey<P>],
     /// The route of the keys that are announced.

@@ -76,7 +76,6 @@ fn speaks_of<F: Unicast>(chosen: &ChosenPrefixes<F>, event: &EventRef<'_, Prefix
     match event {
         EventRef::Change(update) => {
             has_chosen(chosen, update.withdrawn)
-                || has_chosen(chosen, update.unreached)
                 || has_chosen(chosen, update.announced)
                 || has_chosen(chosen, update.reached)
         }

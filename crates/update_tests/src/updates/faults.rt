@@ -49,6 +49,20 @@ fn the_first_fault_from_the_left_is_named(rt: HostRuntime) {
         ("0000 0008 40020102 40010103 210A", Fault::BadPath),
         ("0000 0007 40010103 400401", Fault::BadAttribute(1)),
         ("0000 0007 400302 0000 4001", Fault::BadAttribute(3)),
+        // Keys of attributes 14 and 15, and ORIGIN.
+        (
+            "0000 0012 800E0B 0001 01 04 C0000209 00 210A 40010103",
+            Fault::BadPrefix,
+        ),
+        ("0000 000C 800F05 0001 01 090A 40010103", Fault::BadPrefix),
+        (
+            "0000 000C 40010103 800F05 0001 01 090A",
+            Fault::BadAttribute(1),
+        ),
+        (
+            "0000 000C 800F05 0001 01 080A 40010103",
+            Fault::BadAttribute(1),
+        ),
     ] {
         expect_fault::<u32>(&rt, rt.alloc(), text, Some(want));
     }

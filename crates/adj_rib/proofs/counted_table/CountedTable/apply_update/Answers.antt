@@ -1,6 +1,5 @@
 use Rattle.std.proofs.Common.{◌++◌, List, subst}
 use Rattle.bgp_update.specs.Decoded.{plain_update}
-use Rattle.adj_rib.specs.Keeping.{counted_in}
 use Rattle.adj_rib.specs.Noting.{Takes}
 use Rattle.adj_rib.specs.Steps.{Step, withdrawals, announcements, reachings}
 use Rattle.adj_rib.proofs.NotingLaws.{takes_both}
