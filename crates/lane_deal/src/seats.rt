@@ -5,6 +5,8 @@ ghost use Rattle.std.specs.List.{list_any};
 ghost use Rattle.peer_units.specs.DecodedEvents.{Means, event_of};
 ghost use Rattle.peer_units.specs.Plain.{Unit as ReplayUnit};
 ghost use Rattle.peer_tables.specs.Seats.{seat_of};
+ghost use Rattle.lane_deal.specs.DecodedUnitLists.{IsDecodedAt};
+ghost use Rattle.lane_deal.specs.Plain.{PeerUnit};
 ghost use Rattle.lane_deal.specs.Seating.{AreIndexed, SeatFor, TakenAt};
 
 use crate::decoded_units::DecodedUnits;
@@ -197,6 +199,24 @@ impl<F: Unicast, M: PrefixMap<RouteId, Addr = F> + Drop> Seats<M> {
             .take_event(alloc, head.place, head.time, event)
     }
 
+    /// Passes the unit at an index to the session at that position, apart from the code of entries, whose fields would be
+    /// kept beside those of all other kinds.
+    #[inline(never)]
+    fn take_apart(
+        &mut self,
+        alloc: Global,
+        position: usize,
+        batch: &DecodedUnits<F>,
+        at: usize,
+    ) -> Result<(), Memory>
+        requires position { position < length self.old.seats.items }
+        requires at { at < length batch.now.heads }
+        ensures { (item : PeerUnit) → IsDecodedAt batch.now at item → OnOk result
+            (TakenAt (map seat_of self.old.seats.items) (map seat_of self.new.seats.items) position item.unit) }
+    {
+        self.take_at(alloc, position, batch.head(at), batch.event(at))
+    }
+
     /// Prefetches the slots where the routes of the first units would be, and then these routes. The returned number
     /// has no meaning.
     fn touch(&self, batch: &DecodedUnits<F>) -> usize {
@@ -255,7 +275,7 @@ impl<F: Unicast, M: PrefixMap<RouteId, Addr = F> + Drop> Sessions for Seats<M> {
             EventRef::Rib(key, route) => {
                 self.take_at(alloc, position, head, EventRef::Rib(key, route))
             }
-            event => self.take_at(alloc, position, head, event),
+            _ => self.take_apart(alloc, position, batch, at),
         }
     }
 }

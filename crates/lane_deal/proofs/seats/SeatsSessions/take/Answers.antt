@@ -18,7 +18,5 @@ returns-in-Rib g c = λ item decoded.
 pub returns-in_default : goal.returns-in_default
 returns-in_default g c = λ item decoded.
     let head = sym (c.head-head.ensures (head_of item)) ∙ decoded.head (head_of item) in
-    let event = sym (c.event.ensures (event_in item.unit.payload)) ∙ decoded.event (event_in item.unit.payload) in
-    let means : Means item.unit c.head-head.result.now.place c.head-head.result.now.time (event_of c.event.result) = record { place_is = sym (ap (λ h. h.place) head); time_is = sym (ap (λ h. h.time) head); event_is = sym event } in
     let seat = subst (λ h. SeatFor (map seat_of c.args.self.now.seats.items) (map seat_of c.position_for.new.self.seats.items) h.number h.peer c.in_ok-position.position) head c.in_ok-position.ensures.seat in
-    HoldsUnits-taken c.take_at-in_default.result _ _ _ _ item.number c.in_ok-position.position item.unit seat refl (c.take_at-in_default.ensures item.unit means)
+    HoldsUnits-taken c.take_apart.result _ _ _ _ item.number c.in_ok-position.position item.unit seat refl (c.take_apart.ensures item decoded)
