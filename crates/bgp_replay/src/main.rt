@@ -143,7 +143,7 @@ fn is_history<F: Unicast>(request: &Request<F>, choices: &[PrefixChoice<Prefix<F
 /// the job has.
 fn workers_of<F: AddressText>(threads: &impl Threads, job: &Job<F>) -> usize
     ensures least { 1 ≤ result }
-    ensures most { result ≤ 64 }
+    ensures most { result ≤ MOST_WORKERS }
     ensures asked { IsTrue job.now.has_workers → result ≡ job.now.workers }
 {
     if job.has_workers {
@@ -159,7 +159,7 @@ fn workers_of<F: AddressText>(threads: &impl Threads, job: &Job<F>) -> usize
 /// there are, as many as the job has.
 fn most_threads<F: Unicast>(threads: &impl Threads, job: &Job<F>) -> usize
     ensures least { 1 ≤ result }
-    ensures most { result ≤ 64 }
+    ensures most { result ≤ MOST_WORKERS }
     ensures asked { IsTrue job.now.has_workers → result ≡ job.now.workers }
 {
     if job.has_workers {
@@ -204,15 +204,15 @@ fn looks_of(workers: usize) -> u32 {
 
 /// Returns the maximum number of units that are dealt to this many workers in a round.
 fn batch_of(workers: usize) -> u64
-    requires { workers ≤ 64 }
-    ensures { result ≡ min (65536 * workers) 1048576 }
+    requires { workers ≤ MOST_WORKERS }
+    ensures { result ≡ min (BATCH_EACH * workers) MOST_BATCH }
 {
     (BATCH_EACH * workers as u64).min(MOST_BATCH)
 }
 
 fn plan_of<F: Unicast>(job: &Job<F>, workers: usize) -> Plan
     requires least { 1 ≤ workers }
-    requires most { workers ≤ 64 }
+    requires most { workers ≤ MOST_WORKERS }
     ensures plan { IsPlan result }
     ensures workers { result.workers ≡ workers }
     ensures ring { result.ring ≡ job.now.ring }

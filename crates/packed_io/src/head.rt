@@ -1,6 +1,7 @@
 //! The first bytes of a file, and a reader that begins with them.
 
 ghost use Rattle.std.specs.Prelude.{◌≡◌, ◌≤◌, ◌+◌, ◌++◌, [], length, min, drop, take};
+ghost use Rattle.packed_io.specs.declared.head.TheConstants.{TELLING};
 
 use crate::place::Place;
 use std::io::{self, Read};
@@ -11,9 +12,9 @@ pub(crate) const TELLING: usize = 10;
 /// The first bytes of a file, as far as they were read.
 #[derive(Clone, Copy, Drop)]
 pub(crate) struct Head {
-    bytes: [u8; 10],
+    bytes: [u8; TELLING],
     filled: usize,
-    ghost within: { filled ≤ 10 },
+    ghost within: { filled ≤ TELLING },
 }
 
 impl Head {
@@ -30,7 +31,7 @@ impl Head {
 
     pub(crate) fn as_slice(&self) -> &[u8]
         ensures bytes { result.now ≡ head_bytes self.now }
-        ensures size { length result.now ≤ 10 }
+        ensures size { length result.now ≤ TELLING }
     {
         &self.bytes[..self.filled]
     }
@@ -47,14 +48,14 @@ impl Head {
 
     /// How many bytes are still wanted.
     pub(crate) fn room(&self) -> usize
-        ensures { result + length (head_bytes self.now) ≡ 10 }
+        ensures { result + length (head_bytes self.now) ≡ TELLING }
     {
         TELLING - self.filled
     }
 
     /// Adds the bytes that come next.
     pub(crate) fn add(&mut self, bytes: &[u8])
-        requires { length (head_bytes self.old) + length bytes.now ≤ 10 }
+        requires { length (head_bytes self.old) + length bytes.now ≤ TELLING }
         ensures { head_bytes self.new ≡ head_bytes self.old ++ bytes.now }
     {
         let end = self.filled + bytes.len();

@@ -7,7 +7,7 @@ ghost use Rattle.rib_report.specs.LineParts.{line_beginning, line_end};
 ghost use Rattle.rib_report.specs.Texts.{empty_buffer, Adds};
 
 use crate::field::{Field, PeerText, ShownPeerOf};
-use crate::numbers::format_numbers;
+use crate::numbers::{NUMBERS_AT_ONCE, format_numbers};
 use crate::route_line::{END_BYTES, beginning_bytes, format_beginning, format_end};
 use crate::text::Text;
 use bgp_prefix::{Prefix, RouteKey};
@@ -17,7 +17,7 @@ use report_request::AddressFormsOf;
 use std::marker::Model;
 
 /// The maximum number of pending bytes.
-pub(crate) const CAPACITY: usize = 65536;
+pub(crate) const CAPACITY: usize = 65_536;
 
 /// Pending bytes, and whether those before them were lost.
 #[derive(Drop)]
@@ -31,12 +31,13 @@ pub(crate) struct TextBuffer {
 impl Model for TextBuffer {
     ghost use Rattle.std.specs.Prelude.{◌≤◌, take};
     ghost use Rattle.rib_report.specs.Texts.{BufferState};
+    ghost use Rattle.rib_report.specs.declared.buffer.TheConstants.{CAPACITY};
 
     ghost Value = { BufferState };
 
     ghost view = { λ b. record { waiting = take b.len b.bytes; failed = b.failed } };
 
-    ghost invariant = { λ b. b.len ≤ 65536 };
+    ghost invariant = { λ b. b.len ≤ CAPACITY };
 }
 
 impl TextBuffer {
@@ -78,7 +79,7 @@ impl TextBuffer {
     /// The number of bytes that may still be appended.
     #[inline]
     pub(crate) fn room(&self) -> usize
-        ensures { result + length self.now.waiting ≡ 65536 }
+        ensures { result + length self.now.waiting ≡ CAPACITY }
     {
         CAPACITY - self.len
     }
@@ -93,7 +94,7 @@ impl TextBuffer {
 
     /// Copies the bytes after the pending ones.
     pub(crate) fn append(&mut self, bytes: &[u8])
-        requires { length self.old.waiting + length bytes.now ≤ 65536 }
+        requires { length self.old.waiting + length bytes.now ≤ CAPACITY }
         ensures { self.new ≡ record { waiting = self.old.waiting ++ bytes.now; failed = self.old.failed } }
     {
         let end = self.len + bytes.len();
@@ -111,7 +112,7 @@ impl TextBuffer {
 
 /// Adds the text of a field.
 pub(crate) fn put<T: Text, A: Field>(text: &mut T, field: A)
-    requires { A.longest < 65536 }
+    requires { A.longest < CAPACITY }
     ensures { Adds (T.state text.old) (T.state text.new) (A.text_of field) }
 {
     text.make_room(A::longest() + 1);
@@ -148,7 +149,7 @@ pub(crate) fn put_attributes<T: Text, F: Unicast>(
 }
 
 /// Adds `segment[from..to]` in decimal, `before` in front of the first number and `separator` in front of each other.
-/// They are at most 255, so that one check for room covers them.
+/// They are few, so that one check for room covers them.
 #[inline(always)]
 pub(crate) fn put_some_numbers<T: Text>(
     text: &mut T,
@@ -158,7 +159,7 @@ pub(crate) fn put_some_numbers<T: Text>(
     from: usize,
     to: usize,
 )
-    requires { (from < to) × (to ≤ from + 255) × (to ≤ length segment.now.numbers) }
+    requires { (from < to) × (to ≤ from + NUMBERS_AT_ONCE) × (to ≤ length segment.now.numbers) }
     ensures { Adds (T.state text.old) (T.state text.new)
         (before ∷ numbers_text separator (between from to segment.now.numbers)) }
 {

@@ -13,7 +13,7 @@ use bgp_update::PackedSegment;
 use ip_text::DecimalTable;
 
 /// How many numbers get room at once. A segment of a packed route has no more.
-const NUMBERS_AT_ONCE: usize = 255;
+pub(crate) const NUMBERS_AT_ONCE: usize = 255;
 
 /// Writes the numbers of a segment from one to before another: the first behind one byte, and the others each behind
 /// another.

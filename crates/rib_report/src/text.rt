@@ -31,9 +31,9 @@ pub(crate) trait Text {
 
     /// Makes room in the buffer for some bytes.
     fn make_room(&mut self, count: usize)
-        requires { count ≤ 65536 }
+        requires { count ≤ CAPACITY }
         ensures adds { Adds (state self.old) (state self.new) [] }
-        ensures room { length (state self.new).buffer.waiting + count ≤ 65536 };
+        ensures room { length (state self.new).buffer.waiting + count ≤ CAPACITY };
 
     /// Adds bytes.
     fn put_text(&mut self, bytes: &[u8])
