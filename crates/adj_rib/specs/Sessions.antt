@@ -40,5 +40,5 @@ abbrev pub chosen_session : List PrefixChoice → SessionState → SessionState
 chosen_session choices session = record session { table = selected_entries (chooses choices) session.table }
 
 -- a session that stands for these units
-abbrev pub StandsFor : SessionState → List ReplayUnit → Type 0
-StandsFor session units = session ≡ session_of units
+abbrev pub IsSessionOf : SessionState → List ReplayUnit → Type 0
+IsSessionOf session units = session ≡ session_of units

@@ -1,6 +1,6 @@
 //! The session of one peer: its table (Adj-RIB-In, RFC 4271, 3.2), its churn and its damaged units.
 //!
-//! A `Session` stands for the list of units that it took (`StandsFor`): its table, counts and faults are those of the
+//! A `Session` stands for the list of units that it took (`IsSessionOf`): its table, counts and faults are those of the
 //! definitions on this list, and no ghost list is kept. The rules of the replay are in `specs/Steps.antt`, a relation
 //! from units to steps, and a table is what steps leave.
 //!

@@ -2,7 +2,7 @@
 
 ghost use Rattle.std.specs.Prelude.{◌≡◌, [], ◌∷◌, ◌++◌, List, OnOk, is_err, IsErr, IsTrue};
 ghost use Rattle.std.specs.FinMap as finite;
-ghost use Rattle.adj_rib.specs.Sessions.{StandsFor, chosen_session};
+ghost use Rattle.adj_rib.specs.Sessions.{IsSessionOf, chosen_session};
 ghost use Rattle.peer_units.specs.DecodedEvents.{event_of, Means};
 ghost use Rattle.peer_units.specs.Plain.{Unit as ReplayUnit};
 
@@ -47,7 +47,7 @@ impl<M: PrefixMap<RouteId>> Model for Session<M> {
 impl<F: Unicast, M: PrefixMap<RouteId, Addr = F> + Drop> Session<M> {
     /// Returns the session of a peer without units, which is up and has no routes. Allocates nothing.
     pub fn new(alloc: Global) -> Session<M>
-        ensures { StandsFor result [] }
+        ensures { IsSessionOf result [] }
     {
         Session {
             rib: RibIn::new(alloc),
@@ -60,8 +60,8 @@ impl<F: Unicast, M: PrefixMap<RouteId, Addr = F> + Drop> Session<M> {
     /// listed. After an `Err` the session is spent: each further `take` returns `Err`, and the results of the other
     /// calls, except `is_spent`, no longer mean anything.
     pub fn take(&mut self, alloc: Global, unit: &UnitOf<F>) -> Result<(), Memory>
-        ensures stands { (before : List ReplayUnit) → StandsFor self.old before →
-            OnOk result (StandsFor self.new (before ++ unit.now ∷ [])) }
+        ensures stands { (before : List ReplayUnit) → IsSessionOf self.old before →
+            OnOk result (IsSessionOf self.new (before ++ unit.now ∷ [])) }
         ensures spent { self.new.spent ≡ is_err result }
         ensures stays_spent { IsTrue self.old.spent → IsErr result }
     {
@@ -83,9 +83,9 @@ impl<F: Unicast, M: PrefixMap<RouteId, Addr = F> + Drop> Session<M> {
         time: u64,
         event: EventRef<'_, Prefix<F>>,
     ) -> Result<(), Memory>
-        ensures stands { (before : List ReplayUnit) (unit : ReplayUnit) → StandsFor self.old before →
+        ensures stands { (before : List ReplayUnit) (unit : ReplayUnit) → IsSessionOf self.old before →
             Means unit place time (event_of event.entry) →
-            OnOk result (StandsFor self.new (before ++ unit ∷ [])) }
+            OnOk result (IsSessionOf self.new (before ++ unit ∷ [])) }
         ensures spent { self.new.spent ≡ is_err result }
         ensures stays_spent { IsTrue self.old.spent → IsErr result }
     {

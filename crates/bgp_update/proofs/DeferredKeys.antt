@@ -88,23 +88,23 @@ unreached_fails family add_path value fault head e =
 -- ---- heads
 
 -- the fault of a head is the value's
-head_stops : (family : FamilyOf) (carrier : AttributeContext) (width : Width) (t : AttributeType) (value : List ℕ) (fault : Fault) → head_fault family carrier width t value ≡ Some fault → value_fault family carrier width t value ≡ Some fault
+head_stops : (family : FamilyOf) (context : AttributeContext) (width : Width) (t : AttributeType) (value : List ℕ) (fault : Fault) → head_fault family context width t value ≡ Some fault → value_fault family context width t value ≡ Some fault
 unfolding head_fault value_fault
 head_stops family RibEntry width types.MpReachNlri value fault e = e
 head_stops family (Message add_path) width types.MpReachNlri value fault e = stops (reach_in family value) _ fault e
 head_stops family RibEntry width types.MpUnreachNlri value fault e = e
 head_stops family (Message add_path) width types.MpUnreachNlri value fault e = stops (unreach_in family value) _ fault e
-head_stops family carrier width t value fault e = e
+head_stops family context width t value fault e = e
 
-pub head_beside_stops : (family : FamilyOf) (carrier : AttributeContext) (width : Width) (value_at : AttributeType → Option (List ℕ)) (a : WrittenAttribute) (fault : Fault)
-    → head_fault_beside family carrier width value_at a ≡ Some fault → fault_beside family carrier width value_at a ≡ Some fault
-head_beside_stops family carrier width value_at a fault = by_type (type_of a.code)
+pub head_beside_stops : (family : FamilyOf) (context : AttributeContext) (width : Width) (value_at : AttributeType → Option (List ℕ)) (a : WrittenAttribute) (fault : Fault)
+    → head_fault_beside family context width value_at a ≡ Some fault → fault_beside family context width value_at a ≡ Some fault
+head_beside_stops family context width value_at a fault = by_type (type_of a.code)
   where
-    by_value : (t : AttributeType) (o : Option (List ℕ)) → head_fault_of_type family carrier width t o a.value ≡ Some fault → fault_of_type family carrier width t o a.value ≡ Some fault
-    by_value t None e = head_stops family carrier width t a.value fault e
+    by_value : (t : AttributeType) (o : Option (List ℕ)) → head_fault_of_type family context width t o a.value ≡ Some fault → fault_of_type family context width t o a.value ≡ Some fault
+    by_value t None e = head_stops family context width t a.value fault e
     by_value t (Some first) e = e
 
-    by_type : (o : Option AttributeType) → option_and_then (λ t. head_fault_of_type family carrier width t (value_at t) a.value) o ≡ Some fault → option_and_then (λ t. fault_of_type family carrier width t (value_at t) a.value) o ≡ Some fault
+    by_type : (o : Option AttributeType) → option_and_then (λ t. head_fault_of_type family context width t (value_at t) a.value) o ≡ Some fault → option_and_then (λ t. fault_of_type family context width t (value_at t) a.value) o ≡ Some fault
     by_type None e = e
     by_type (Some t) e = by_value t (value_at t) e
 
@@ -183,8 +183,8 @@ abbrev pub later_values : (AttributeType → Option (List ℕ)) → WrittenAttri
 later_values value_at a t = option_or (value_at t) (cond (has_type t a) (Some a.value) None)
 
 module _ (family : FamilyOf) (add_path : Bool) (width : Width) (value_at : AttributeType → Option (List ℕ)) (a : WrittenAttribute) where
-  abbrev context : AttributeContext
-  context = Message add_path
+  abbrev message : AttributeContext
+  message = Message add_path
 
   abbrev later : AttributeType → Option (List ℕ)
   later = later_values value_at a
@@ -239,51 +239,51 @@ module _ (family : FamilyOf) (add_path : Bool) (width : Width) (value_at : Attri
           ap (λ (o : Option (List ℕ)). option_or o (cond (has_type u a) (Some a.value) None)) own ∙ sym own
 
   abbrev Goal : Type 0
-  Goal = KeysStep (keys_fault family context value_at) (fault_beside family context width value_at a) (keys_fault family context later)
+  Goal = KeysStep (keys_fault family message value_at) (fault_beside family message width value_at a) (keys_fault family message later)
 
   -- neither value changes
-  same : fault_beside family context width value_at a ≡ None → later types.MpUnreachNlri ≡ value_at types.MpUnreachNlri → later types.MpReachNlri ≡ value_at types.MpReachNlri → Goal
-  same f u r = moved _ _ _ _ _ _ refl f (λ i. option_or (unreached (u i)) (reached (r i))) (no_keys (keys_fault family context value_at))
+  same : fault_beside family message width value_at a ≡ None → later types.MpUnreachNlri ≡ value_at types.MpUnreachNlri → later types.MpReachNlri ≡ value_at types.MpReachNlri → Goal
+  same f u r = moved _ _ _ _ _ _ refl f (λ i. option_or (unreached (u i)) (reached (r i))) (no_keys (keys_fault family message value_at))
 
-  unreached_first : type_of a.code ≡ Some types.MpUnreachNlri → value_at types.MpUnreachNlri ≡ None → head_fault_beside family context width value_at a ≡ None → Goal
+  unreached_first : type_of a.code ≡ Some types.MpUnreachNlri → value_at types.MpUnreachNlri ≡ None → head_fault_beside family message width value_at a ≡ None → Goal
   unfolding head_fault value_fault
   unreached_first e none fine =
-      let head : result_err (unreach_in family a.value) ≡ None = sym (head_beside family context width value_at a types.MpUnreachNlri None e none) ∙ fine in
+      let head : result_err (unreach_in family a.value) ≡ None = sym (head_beside family message width value_at a types.MpUnreachNlri None e none) ∙ fine in
       let r = other_value types.MpReachNlri (value_index_decides a.code types.MpUnreachNlri types.MpReachNlri e) in
       let u = first_value types.MpUnreachNlri none (value_index_decides a.code types.MpUnreachNlri types.MpUnreachNlri e) in
       moved _ _ _ _ _ _
       (ap (λ (o : Option Fault). option_or o (reached (value_at types.MpReachNlri))) (unreached_none (value_at types.MpUnreachNlri) none))
-      (beside family context width value_at a types.MpUnreachNlri None e none)
+      (beside family message width value_at a types.MpUnreachNlri None e none)
       (λ i. option_or ((ap unreached u ∙ unreached_some a.value) i) (reached (r i)))
       (unreached_steps (result_err (unreached_in family add_path a.value)) (reached (value_at types.MpReachNlri)) (λ fault. unreached_fails family add_path a.value fault head))
 
-  reached_first : type_of a.code ≡ Some types.MpReachNlri → value_at types.MpReachNlri ≡ None → head_fault_beside family context width value_at a ≡ None → Goal
+  reached_first : type_of a.code ≡ Some types.MpReachNlri → value_at types.MpReachNlri ≡ None → head_fault_beside family message width value_at a ≡ None → Goal
   unfolding head_fault value_fault
   reached_first e none fine =
-      let head : result_err (reach_in family a.value) ≡ None = sym (head_beside family context width value_at a types.MpReachNlri None e none) ∙ fine in
+      let head : result_err (reach_in family a.value) ≡ None = sym (head_beside family message width value_at a types.MpReachNlri None e none) ∙ fine in
       let u = other_value types.MpUnreachNlri (value_index_decides a.code types.MpReachNlri types.MpUnreachNlri e) in
       let r = first_value types.MpReachNlri none (value_index_decides a.code types.MpReachNlri types.MpReachNlri e) in
       moved _ _ _ _ _ _
       (ap (λ (o : Option Fault). option_or (unreached (value_at types.MpUnreachNlri)) o) (reached_none (value_at types.MpReachNlri) none) ∙ or_none (unreached (value_at types.MpUnreachNlri)))
-      (beside family context width value_at a types.MpReachNlri None e none)
+      (beside family message width value_at a types.MpReachNlri None e none)
       (λ i. option_or (unreached (u i)) ((ap reached r ∙ reached_some a.value) i))
       (reached_steps (unreached (value_at types.MpUnreachNlri)) (result_err (reached_in family add_path a.value)) (λ fault. reached_fails family add_path a.value fault head))
 
-  first_of : (t : AttributeType) → type_of a.code ≡ Some t → value_at t ≡ None → head_fault_beside family context width value_at a ≡ None → Goal
+  first_of : (t : AttributeType) → type_of a.code ≡ Some t → value_at t ≡ None → head_fault_beside family message width value_at a ≡ None → Goal
   unfolding head_fault value_fault
   first_of types.MpUnreachNlri e none fine = unreached_first e none fine
   first_of types.MpReachNlri e none fine = reached_first e none fine
   first_of t e none fine =
-      same (beside family context width value_at a t None e none ∙ sym (head_beside family context width value_at a t None e none) ∙ fine)
+      same (beside family message width value_at a t None e none ∙ sym (head_beside family message width value_at a t None e none) ∙ fine)
       (other_value types.MpUnreachNlri (value_index_decides a.code t types.MpUnreachNlri e)) (other_value types.MpReachNlri (value_index_decides a.code t types.MpReachNlri e))
 
-  message_steps : head_fault_beside family context width value_at a ≡ None → Goal
+  message_steps : head_fault_beside family message width value_at a ≡ None → Goal
   message_steps fine = by_type (type_of a.code) refl
     where
       by_value : (t : AttributeType) → type_of a.code ≡ Some t → (o : Option (List ℕ)) → value_at t ≡ o → Goal
       by_value t e None h = first_of t e h fine
       by_value t e (Some first) h =
-          same (beside family context width value_at a t (Some first) e h ∙ sym (head_beside family context width value_at a t (Some first) e h) ∙ fine)
+          same (beside family message width value_at a t (Some first) e h ∙ sym (head_beside family message width value_at a t (Some first) e h) ∙ fine)
           (again_value t types.MpUnreachNlri first e h) (again_value t types.MpReachNlri first e h)
 
       by_type : (o : Option AttributeType) → type_of a.code ≡ o → Goal
@@ -291,7 +291,7 @@ module _ (family : FamilyOf) (add_path : Bool) (width : Width) (value_at : Attri
       by_type (Some t) e = by_value t e (value_at t) refl
 
 -- the fault of keys behind an attribute whose head is fine
-pub keys_step : (family : FamilyOf) (carrier : AttributeContext) (width : Width) (value_at : AttributeType → Option (List ℕ)) (a : WrittenAttribute) → head_fault_beside family carrier width value_at a ≡ None
-    → KeysStep (keys_fault family carrier value_at) (fault_beside family carrier width value_at a) (keys_fault family carrier (later_values value_at a))
+pub keys_step : (family : FamilyOf) (context : AttributeContext) (width : Width) (value_at : AttributeType → Option (List ℕ)) (a : WrittenAttribute) → head_fault_beside family context width value_at a ≡ None
+    → KeysStep (keys_fault family context value_at) (fault_beside family context width value_at a) (keys_fault family context (later_values value_at a))
 keys_step family RibEntry width value_at a fine = moved _ _ _ _ _ _ refl (rib_beside family width value_at a ∙ fine) refl (no_keys None)
 keys_step family (Message add_path) width value_at a fine = message_steps family add_path width value_at a fine

@@ -93,23 +93,23 @@ entry_passes : (own : Bool) (family : FamilyOf) (value : List ℕ) → HoldsEntr
 entry_passes true family value h = refl
 entry_passes false family value h = ap result_err (entry_hop_in-said family value h.0 h.1)
 
-holds_reach : (family : FamilyOf) (carrier : AttributeContext) (value : List ℕ) → IsBytes value → reached_fault family carrier value ≡ None → HoldsReach family carrier value
+holds_reach : (family : FamilyOf) (context : AttributeContext) (value : List ℕ) → IsBytes value → reached_fault family context value ≡ None → HoldsReach family context value
 holds_reach family RibEntry value fine e = entry_holds family.own_fields family value fine e
 holds_reach family (Message add_path) value fine e =
     let r = no_reading_fault (reached_in family add_path value) e in
     (r.0.0, r.0.1, reached_in-is family add_path value r.0 fine r.1)
 
-reach_passes : (family : FamilyOf) (carrier : AttributeContext) (value : List ℕ) → HoldsReach family carrier value → reached_fault family carrier value ≡ None
+reach_passes : (family : FamilyOf) (context : AttributeContext) (value : List ℕ) → HoldsReach family context value → reached_fault family context value ≡ None
 reach_passes family RibEntry value h = entry_passes family.own_fields family value h
 reach_passes family (Message add_path) value h = rw (reached_in-bytes family add_path value h.0 h.1 h.2) refl
 
-holds_unreach : (family : FamilyOf) (carrier : AttributeContext) (value : List ℕ) → IsBytes value → unreached_fault family carrier value ≡ None → HoldsUnreach family carrier value
+holds_unreach : (family : FamilyOf) (context : AttributeContext) (value : List ℕ) → IsBytes value → unreached_fault family context value ≡ None → HoldsUnreach family context value
 holds_unreach family RibEntry value fine e = tt
 holds_unreach family (Message add_path) value fine e =
     let r = no_reading_fault (unreached_in family add_path value) e in
     (r.0, unreached_in-is family add_path value r.0 fine r.1)
 
-unreach_passes : (family : FamilyOf) (carrier : AttributeContext) (value : List ℕ) → HoldsUnreach family carrier value → unreached_fault family carrier value ≡ None
+unreach_passes : (family : FamilyOf) (context : AttributeContext) (value : List ℕ) → HoldsUnreach family context value → unreached_fault family context value ≡ None
 unreach_passes family RibEntry value h = refl
 unreach_passes family (Message add_path) value h = rw (unreached_in-bytes family add_path value h.0 h.1) refl
 
@@ -124,30 +124,30 @@ path_is width value fine e =
 path_passes : (width : Width) (value : List ℕ) (path : List PathSegment) → IsPath (number_len width) path → value ≡ path_bytes (number_len width) path → result_err (path_in (number_len width) value) ≡ None
 path_passes width value path h e = ap (λ (v : List ℕ). result_err (path_in (number_len width) v)) e ∙ rw (path_in-bytes width path h) refl
 
-pub value_is_formed : (family : FamilyOf) (carrier : AttributeContext) (width : Width) (t : AttributeType) (value : List ℕ) → IsBytes value → value_fault family carrier width t value ≡ None → IsFormed family carrier width t value
+pub value_is_formed : (family : FamilyOf) (context : AttributeContext) (width : Width) (t : AttributeType) (value : List ℕ) → IsBytes value → value_fault family context width t value ≡ None → IsFormed family context width t value
 unfolding value_fault
-value_is_formed family carrier width types.Origin value fine e = is_origin value (no_fault (is_some (origin_of value)) (bad_attribute types.Origin) e)
-value_is_formed family carrier width types.AsPath value fine e = path_is width value fine e
-value_is_formed family carrier width types.NextHop value fine e = has_length value 4 (bad_attribute types.NextHop) e
-value_is_formed family carrier width types.MultiExitDisc value fine e = has_length value 4 (bad_attribute types.MultiExitDisc) e
-value_is_formed family carrier width types.LocalPref value fine e = has_length value 4 (bad_attribute types.LocalPref) e
-value_is_formed family carrier width types.AtomicAggregate value fine e = has_length value 0 (bad_attribute types.AtomicAggregate) e
-value_is_formed family carrier width types.Aggregator value fine e = either_length value (bad_attribute types.Aggregator) e
-value_is_formed family carrier width types.MpReachNlri value fine e = holds_reach family carrier value fine e
-value_is_formed family carrier width types.MpUnreachNlri value fine e = holds_unreach family carrier value fine e
-value_is_formed family carrier width types.As4Path value fine e = tt
-value_is_formed family carrier width types.As4Aggregator value fine e = tt
+value_is_formed family context width types.Origin value fine e = is_origin value (no_fault (is_some (origin_of value)) (bad_attribute types.Origin) e)
+value_is_formed family context width types.AsPath value fine e = path_is width value fine e
+value_is_formed family context width types.NextHop value fine e = has_length value 4 (bad_attribute types.NextHop) e
+value_is_formed family context width types.MultiExitDisc value fine e = has_length value 4 (bad_attribute types.MultiExitDisc) e
+value_is_formed family context width types.LocalPref value fine e = has_length value 4 (bad_attribute types.LocalPref) e
+value_is_formed family context width types.AtomicAggregate value fine e = has_length value 0 (bad_attribute types.AtomicAggregate) e
+value_is_formed family context width types.Aggregator value fine e = either_length value (bad_attribute types.Aggregator) e
+value_is_formed family context width types.MpReachNlri value fine e = holds_reach family context value fine e
+value_is_formed family context width types.MpUnreachNlri value fine e = holds_unreach family context value fine e
+value_is_formed family context width types.As4Path value fine e = tt
+value_is_formed family context width types.As4Aggregator value fine e = tt
 
-pub formed_passes : (family : FamilyOf) (carrier : AttributeContext) (width : Width) (t : AttributeType) (value : List ℕ) → IsFormed family carrier width t value → value_fault family carrier width t value ≡ None
+pub formed_passes : (family : FamilyOf) (context : AttributeContext) (width : Width) (t : AttributeType) (value : List ℕ) → IsFormed family context width t value → value_fault family context width t value ≡ None
 unfolding value_fault
-formed_passes family carrier width types.Origin value h = origin_passes value h.0 (bad_attribute types.Origin) h.1
-formed_passes family carrier width types.AsPath value h = path_passes width value h.0 h.1 h.2
-formed_passes family carrier width types.NextHop value h = length_passes value 4 (bad_attribute types.NextHop) h
-formed_passes family carrier width types.MultiExitDisc value h = length_passes value 4 (bad_attribute types.MultiExitDisc) h
-formed_passes family carrier width types.LocalPref value h = length_passes value 4 (bad_attribute types.LocalPref) h
-formed_passes family carrier width types.AtomicAggregate value h = length_passes value 0 (bad_attribute types.AtomicAggregate) h
-formed_passes family carrier width types.Aggregator value h = either_passes value (bad_attribute types.Aggregator) h
-formed_passes family carrier width types.MpReachNlri value h = reach_passes family carrier value h
-formed_passes family carrier width types.MpUnreachNlri value h = unreach_passes family carrier value h
-formed_passes family carrier width types.As4Path value h = refl
-formed_passes family carrier width types.As4Aggregator value h = refl
+formed_passes family context width types.Origin value h = origin_passes value h.0 (bad_attribute types.Origin) h.1
+formed_passes family context width types.AsPath value h = path_passes width value h.0 h.1 h.2
+formed_passes family context width types.NextHop value h = length_passes value 4 (bad_attribute types.NextHop) h
+formed_passes family context width types.MultiExitDisc value h = length_passes value 4 (bad_attribute types.MultiExitDisc) h
+formed_passes family context width types.LocalPref value h = length_passes value 4 (bad_attribute types.LocalPref) h
+formed_passes family context width types.AtomicAggregate value h = length_passes value 0 (bad_attribute types.AtomicAggregate) h
+formed_passes family context width types.Aggregator value h = either_passes value (bad_attribute types.Aggregator) h
+formed_passes family context width types.MpReachNlri value h = reach_passes family context value h
+formed_passes family context width types.MpUnreachNlri value h = unreach_passes family context value h
+formed_passes family context width types.As4Path value h = refl
+formed_passes family context width types.As4Aggregator value h = refl

@@ -26,23 +26,23 @@ use Rattle.bgp_update.proofs.FromFirstValues.{route_from_same}
 use Rattle.bgp_update.proofs.Packings.{route_with_path, spelled-bytes}
 use Rattle.bgp_update.proofs.Packable.{said_writable}
 
-spelled_if : (family : FamilyOf) (carrier : AttributeContext) (o : Option (List ℕ)) → IfSome o (IsFormed family carrier Four AsPath) → IfSome o IsSpelled
-spelled_if family carrier None h = tt
-spelled_if family carrier (Some value) h = subst IsSpelled (sym h.2) (spelled-bytes h.0 h.1)
+spelled_if : (family : FamilyOf) (context : AttributeContext) (o : Option (List ℕ)) → IfSome o (IsFormed family context Four AsPath) → IfSome o IsSpelled
+spelled_if family context None h = tt
+spelled_if family context (Some value) h = subst IsSpelled (sym h.2) (spelled-bytes h.0 h.1)
 
 -- without a fault of keys these are the attributes of the field
-whole : (family : FamilyOf) (carrier : AttributeContext) (width : Width) (bytes : List ℕ) (first : FirstValues) → keys_fault family carrier (kept_value first) ≡ None → (keeps : KeepsFirst family carrier width bytes first) → attributes_in family carrier width bytes ≡ Ok keeps.0
-whole family carrier width bytes first fine keeps = keeps.1 ∙ ap (λ (o : Option Fault). unless_fault o (Ok keeps.0)) fine
+whole : (family : FamilyOf) (context : AttributeContext) (width : Width) (bytes : List ℕ) (first : FirstValues) → keys_fault family context (kept_value first) ≡ None → (keeps : KeepsFirst family context width bytes first) → attributes_in family context width bytes ≡ Ok keeps.0
+whole family context width bytes first fine keeps = keeps.1 ∙ ap (λ (o : Option Fault). unless_fault o (Ok keeps.0)) fine
 
-pub keeps_spelled : (family : FamilyOf) (carrier : AttributeContext) (width : Width) (bytes : List ℕ) (first : FirstValues) → IsBytes bytes → keys_fault family carrier (kept_value first) ≡ None → KeepsFirst family carrier width bytes first → width ≡ Four → IfSome (kept_value first AsPath) IsSpelled
-keeps_spelled family carrier width bytes first fine keys keeps e =
-    let four : KeepsFirst family carrier Four bytes first = subst (λ (w : Width). KeepsFirst family carrier w bytes first) e keeps in
-    let law = attributes_in-is family carrier Four bytes four.0 fine (whole family carrier Four bytes first keys four) in
-    subst (λ (o : Option (List ℕ)). IfSome o IsSpelled) (sym (four.2 AsPath)) (spelled_if family carrier (value_of AsPath four.0) (law.1.formed AsPath))
+pub keeps_spelled : (family : FamilyOf) (context : AttributeContext) (width : Width) (bytes : List ℕ) (first : FirstValues) → IsBytes bytes → keys_fault family context (kept_value first) ≡ None → KeepsFirst family context width bytes first → width ≡ Four → IfSome (kept_value first AsPath) IsSpelled
+keeps_spelled family context width bytes first fine keys keeps e =
+    let four : KeepsFirst family context Four bytes first = subst (λ (w : Width). KeepsFirst family context w bytes first) e keeps in
+    let law = attributes_in-is family context Four bytes four.0 fine (whole family context Four bytes first keys four) in
+    subst (λ (o : Option (List ℕ)). IfSome o IsSpelled) (sym (four.2 AsPath)) (spelled_if family context (value_of AsPath four.0) (law.1.formed AsPath))
 
-pub keeps_writable : (family : FamilyOf) (carrier : AttributeContext) (width : Width) (bytes : List ℕ) (first : FirstValues) → IsBytes bytes → keys_fault family carrier (kept_value first) ≡ None → KeepsFirst family carrier width bytes first → IsWritable (route_from width (kept_value first)).path
-keeps_writable family carrier width bytes first fine keys keeps =
-    let law = attributes_in-is family carrier width bytes keeps.0 fine (whole family carrier width bytes first keys keeps) in
+pub keeps_writable : (family : FamilyOf) (context : AttributeContext) (width : Width) (bytes : List ℕ) (first : FirstValues) → IsBytes bytes → keys_fault family context (kept_value first) ≡ None → KeepsFirst family context width bytes first → IsWritable (route_from width (kept_value first)).path
+keeps_writable family context width bytes first fine keys keeps =
+    let law = attributes_in-is family context width bytes keeps.0 fine (whole family context width bytes first keys keeps) in
     let written : IsWritable (route_from width (λ t. value_of t keeps.0)).path = said_writable width (λ t. value_of t keeps.0) (λ t. values_fine t keeps.0 (subst IsBytes law.0 fine)) in
     subst (λ (r : Route). IsWritable r.path) (sym (route_from_same width (kept_value first) (λ t. value_of t keeps.0) keeps.2)) written
 

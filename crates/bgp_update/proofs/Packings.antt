@@ -17,7 +17,7 @@ use Rattle.bgp_update.specs.Paths.{PathSegment}
 use Rattle.bgp_update.specs.Multiprotocol.{FitsHop}
 use Rattle.bgp_update.specs.Segments.{path_bytes, IsPath}
 use Rattle.bgp_update.proofs.SegmentLaws.{path_in-bytes}
-use Rattle.bgp_update.specs.Packing.{FitsAggregator, HaveWidths, IsWritable, CanPack, WritesRoute, flag, origin_code, hop_code, field_flags, hop_bytes, number_bytes, aggregator_bytes, path_part, route_bytes, origin_bits, hop_bits, flag_bit, hop_len, med_at, local_pref_at, aggregator_at, path_at, origin_by, hop_by, number_by, aggregator_by, spelled_path, path_by, unpacked, IsPacked, IsSpelled, fields_bytes}
+use Rattle.bgp_update.specs.Packing.{FitsAggregator, HaveWidths, IsWritable, CanPack, WritesRoute, flag, origin_code, hop_code, field_flags, packed_hop_bytes, number_bytes, aggregator_bytes, path_part, route_bytes, origin_bits, hop_bits, flag_bit, hop_len, med_at, local_pref_at, aggregator_at, path_at, origin_by, hop_by, number_by, aggregator_by, spelled_path, path_by, unpacked, IsPacked, IsSpelled, fields_bytes}
 
 -- ---- flags
 
@@ -72,13 +72,13 @@ two_again : (n a b : ℕ) (rest : List ℕ) → a < 256 ^ n → b < 256 ^ n
 two_again n a b rest ha hb =
     (rw append_assoc (big_number-reads_back n a (big_bytes n b ++ rest) ha), rw (append_assoc, drop_at (big_bytes n a) (big_bytes n b ++ rest) n (length-bytes_high_first n a)) (big_number-reads_back n b rest hb))
 
-hop_again : (hop : Option NextHop) (rest : List ℕ) → IfSome hop FitsHop → hop_by (hop_code hop) (hop_bytes hop ++ rest) ≡ hop
+hop_again : (hop : Option NextHop) (rest : List ℕ) → IfSome hop FitsHop → hop_by (hop_code hop) (packed_hop_bytes hop ++ rest) ≡ hop
 hop_again None rest h = refl
 hop_again (Some (V4 a)) rest h = ap (λ (n : ℕ). Some (V4 n)) (big_number-reads_back 4 a rest h)
 hop_again (Some (V6 a)) rest h = ap (λ (n : ℕ). Some (V6 n)) (big_number-reads_back 16 a rest h)
 hop_again (Some (V6Pair a link)) rest h = let t = two_again 16 a link rest h.0 h.1 in λ i. Some (V6Pair (t.0 i) (t.1 i))
 
-hop_len-is : (hop : Option NextHop) → length (hop_bytes hop) ≡ hop_len (hop_code hop)
+hop_len-is : (hop : Option NextHop) → length (packed_hop_bytes hop) ≡ hop_len (hop_code hop)
 hop_len-is None = refl
 hop_len-is (Some (V4 a)) = length-bytes_high_first 4 a
 hop_len-is (Some (V6 a)) = length-bytes_high_first 16 a
@@ -129,7 +129,7 @@ med_on r = number_bytes r.med ++ local_pref_on r
 pub record AreLaid (bytes : List ℕ) (r : Route) : Type 0 where
   pub flags : AreFlags (get_or bytes 0 0) (origin_code r.origin) (flag r.atomic) (hop_code r.next_hop) (flag (is_some r.med)) (flag (is_some r.local_pref)) (flag (is_some r.aggregator))
   pub path_flag : get_or bytes 1 0 ≡ flag (is_some r.path)
-  pub hop : drop 2 bytes ≡ hop_bytes r.next_hop ++ med_on r
+  pub hop : drop 2 bytes ≡ packed_hop_bytes r.next_hop ++ med_on r
   pub med : drop (med_at bytes) bytes ≡ med_on r
   pub local_pref : drop (local_pref_at bytes) bytes ≡ local_pref_on r
   pub aggregator : drop (aggregator_at bytes) bytes ≡ aggregator_on r
@@ -144,7 +144,7 @@ unfolding route_bytes med_at local_pref_at aggregator_at path_at
 are_laid r =
     let bytes : List ℕ = route_bytes r in
     let f = flags_are r in
-    let med : drop (med_at bytes) bytes ≡ med_on r = drop_on 2 (hop_len (hop_bits bytes)) bytes (hop_bytes r.next_hop) (med_on r) refl (hop_len-is r.next_hop ∙ ap hop_len (sym f.hop)) in
+    let med : drop (med_at bytes) bytes ≡ med_on r = drop_on 2 (hop_len (hop_bits bytes)) bytes (packed_hop_bytes r.next_hop) (med_on r) refl (hop_len-is r.next_hop ∙ ap hop_len (sym f.hop)) in
     let local_pref : drop (local_pref_at bytes) bytes ≡ local_pref_on r =
     drop_on (med_at bytes) (4 * flag_bit 32 bytes) bytes (number_bytes r.med) (local_pref_on r) med (number_len-is r.med ∙ ap (λ (n : ℕ). 4 * n) (sym f.med)) in
     let aggregator : drop (aggregator_at bytes) bytes ≡ aggregator_on r =
@@ -212,9 +212,9 @@ pub length_route : (r : Route) → path_at (route_bytes r) ≤ length (route_byt
 unfolding route_bytes med_at local_pref_at aggregator_at path_at
 length_route r =
     let f = flags_are r in
-    let hop : hop_len (hop_bits (route_bytes r)) ≡ length (hop_bytes r.next_hop) = ap hop_len f.hop ∙ sym (hop_len-is r.next_hop) in
+    let hop : hop_len (hop_bits (route_bytes r)) ≡ length (packed_hop_bytes r.next_hop) = ap hop_len f.hop ∙ sym (hop_len-is r.next_hop) in
     room (hop_len (hop_bits (route_bytes r))) (flag_bit 32 (route_bytes r)) (flag_bit 64 (route_bytes r)) (flag_bit 128 (route_bytes r))
-    (hop_bytes r.next_hop) (number_bytes r.med) (number_bytes r.local_pref) (aggregator_bytes r.aggregator) (path_part r.path) hop
+    (packed_hop_bytes r.next_hop) (number_bytes r.med) (number_bytes r.local_pref) (aggregator_bytes r.aggregator) (path_part r.path) hop
     (ap (λ (n : ℕ). 4 * n) f.med ∙ sym (number_len-is r.med)) (ap (λ (n : ℕ). 4 * n) f.local_pref ∙ sym (number_len-is r.local_pref)) (ap (λ (n : ℕ). 8 * n) f.aggregator ∙ sym (aggregator_len-is r.aggregator))
   where
     room : (k m l g : ℕ) (hs ms ls gs ps : List ℕ) → k ≡ length hs → 4 * m ≡ length ms → 4 * l ≡ length ls → 8 * g ≡ length gs
@@ -227,7 +227,7 @@ packed_room bytes h = subst (λ (b : List ℕ). path_at b ≤ length b) (sym h.w
 
 pub route_bytes-fields : (r : Route) → fields_bytes r (is_some r.path) ++ path_part r.path ≡ route_bytes r
 unfolding route_bytes fields_bytes
-route_bytes-fields r = grouped (field_flags r ∷ flag (is_some r.path) ∷ []) (hop_bytes r.next_hop) (number_bytes r.med) (number_bytes r.local_pref) (aggregator_bytes r.aggregator) (path_part r.path)
+route_bytes-fields r = grouped (field_flags r ∷ flag (is_some r.path) ∷ []) (packed_hop_bytes r.next_hop) (number_bytes r.med) (number_bytes r.local_pref) (aggregator_bytes r.aggregator) (path_part r.path)
   where
     grouped : (fs hs ms ls gs ps : List ℕ) → ((((fs ++ hs) ++ ms) ++ ls) ++ gs) ++ ps ≡ fs ++ (hs ++ (ms ++ (ls ++ (gs ++ ps))))
     grouped fs hs ms ls gs ps = simp append_assoc

@@ -11,7 +11,7 @@ use Rattle.bgp_update.specs.declared.route.Aggregator.{Aggregator}
 use Rattle.bgp_update.specs.declared.route.Route.{Route}
 use Rattle.bgp_update.specs.declared.packed_fields.PlainFields.{PlainFields}
 use Rattle.bgp_update.specs.Paths.{PathSegment}
-use Rattle.bgp_update.specs.Multiprotocol.{is_hop_len, next_hop_of, FitsHop, hop_bytes as written_hop_bytes}
+use Rattle.bgp_update.specs.Multiprotocol.{is_hop_len, next_hop_of, FitsHop, hop_bytes}
 use Rattle.bgp_update.specs.Segments.{path_bytes, IsPath, path_in}
 use Rattle.bgp_update.specs.Equality.{origin_number}
 
@@ -57,9 +57,9 @@ field_flags r =
     + 64 * flag (is_some r.local_pref)
     + 128 * flag (is_some r.aggregator)
 
-abbrev pub hop_bytes : Option NextHop → List ℕ
-hop_bytes None = []
-hop_bytes (Some hop) = written_hop_bytes hop
+abbrev pub packed_hop_bytes : Option NextHop → List ℕ
+packed_hop_bytes None = []
+packed_hop_bytes (Some hop) = hop_bytes hop
 
 abbrev pub number_bytes : Option ℕ → List ℕ
 number_bytes None = []
@@ -76,7 +76,7 @@ path_part (Some path) = path_bytes 4 path
 unfoldable pub route_bytes : Route → List ℕ
 route_bytes r =
     (field_flags r ∷ flag (is_some r.path) ∷ [])
-    ++ (hop_bytes r.next_hop ++ (number_bytes r.med
+    ++ (packed_hop_bytes r.next_hop ++ (number_bytes r.med
     ++ (number_bytes r.local_pref ++ (aggregator_bytes r.aggregator ++ path_part r.path))))
 
 -- the bytes of this route were added, which can be packed
@@ -157,7 +157,7 @@ pub record IsPacked (bytes : List ℕ) : Type 0 where
 pub record IsWrittenHop (bytes : List ℕ) : Type 0 where
   pub len : IsTrue (is_hop_len (length bytes))
   pub fits : FitsHop (next_hop_of bytes)
-  pub written : bytes ≡ hop_bytes (Some (next_hop_of bytes))
+  pub written : bytes ≡ packed_hop_bytes (Some (next_hop_of bytes))
 
 -- the bytes of the path that they spell
 pub record IsSpelled (bytes : List ℕ) : Type 0 where
@@ -167,7 +167,7 @@ pub record IsSpelled (bytes : List ℕ) : Type 0 where
 -- the bytes in front of the path
 unfoldable pub fields_bytes : Route → Bool → List ℕ
 fields_bytes r has_path =
-    (((((field_flags r ∷ flag has_path ∷ []) ++ hop_bytes r.next_hop) ++ number_bytes r.med)
+    (((((field_flags r ∷ flag has_path ∷ []) ++ packed_hop_bytes r.next_hop) ++ number_bytes r.med)
     ++ number_bytes r.local_pref) ++ aggregator_bytes r.aggregator)
 
 -- the route of these fields and a next hop, with no path

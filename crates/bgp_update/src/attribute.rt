@@ -71,10 +71,10 @@ fn path_fault(value: &[u8], width: Width) -> Option<Fault>
 }
 
 /// Returns the fault of what MP_REACH_NLRI has before its keys.
-fn reach_head_fault<F: Unicast>(carrier: AttributeContext, value: &[u8]) -> Option<Fault>
-    ensures { result ≡ values.reach_head_fault F.family carrier value.now }
+fn reach_head_fault<F: Unicast>(context: AttributeContext, value: &[u8]) -> Option<Fault>
+    ensures { result ≡ values.reach_head_fault F.family context value.now }
 {
-    match carrier {
+    match context {
         AttributeContext::RibEntry => if F::encoding().own_fields {
             None
         } else {
@@ -85,10 +85,10 @@ fn reach_head_fault<F: Unicast>(carrier: AttributeContext, value: &[u8]) -> Opti
 }
 
 /// Returns the fault of what MP_UNREACH_NLRI has before its keys.
-fn unreach_head_fault<F: Unicast>(carrier: AttributeContext, value: &[u8]) -> Option<Fault>
-    ensures { result ≡ values.unreach_head_fault F.family carrier value.now }
+fn unreach_head_fault<F: Unicast>(context: AttributeContext, value: &[u8]) -> Option<Fault>
+    ensures { result ≡ values.unreach_head_fault F.family context value.now }
 {
-    match carrier {
+    match context {
         AttributeContext::RibEntry => None,
         AttributeContext::Message { .. } => unreach_in::<F>(value).err(),
     }
@@ -99,12 +99,12 @@ fn unreach_head_fault<F: Unicast>(carrier: AttributeContext, value: &[u8]) -> Op
 #[inline(always)]
 #[tactic(auto, unfolding(crate::specs::Attributes::value_fault, crate::specs::Values::head_fault))]
 pub fn head_fault<F: Unicast>(
-    carrier: AttributeContext,
+    context: AttributeContext,
     width: Width,
     attribute_type: AttributeType,
     value: &[u8],
 ) -> Option<Fault>
-    ensures { result ≡ values.head_fault F.family carrier width attribute_type value.now }
+    ensures { result ≡ values.head_fault F.family context width attribute_type value.now }
 {
     let bad = attribute_type.fault();
     match attribute_type {
@@ -114,18 +114,18 @@ pub fn head_fault<F: Unicast>(
             fault_unless(value.len() == 4, bad),
         AttributeType::AtomicAggregate => fault_unless(value.is_empty(), bad),
         AttributeType::Aggregator => fault_unless(value.len() == 6 || value.len() == 8, bad),
-        AttributeType::MpReachNlri => reach_head_fault::<F>(carrier, value),
-        AttributeType::MpUnreachNlri => unreach_head_fault::<F>(carrier, value),
+        AttributeType::MpReachNlri => reach_head_fault::<F>(context, value),
+        AttributeType::MpUnreachNlri => unreach_head_fault::<F>(context, value),
         AttributeType::As4Path | AttributeType::As4Aggregator => None,
     }
 }
 
 /// Whether a second attribute of a type is a fault.
 #[inline(always)]
-pub fn refuses_repeat(carrier: AttributeContext, attribute_type: AttributeType) -> bool
-    ensures { result ≡ attributes.refuses_repeat carrier attribute_type }
+pub fn refuses_repeat(context: AttributeContext, attribute_type: AttributeType) -> bool
+    ensures { result ≡ attributes.refuses_repeat context attribute_type }
 {
-    match carrier {
+    match context {
         AttributeContext::RibEntry => false,
         AttributeContext::Message { .. } => match attribute_type {
             AttributeType::MpReachNlri | AttributeType::MpUnreachNlri => true,

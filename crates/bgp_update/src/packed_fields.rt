@@ -6,7 +6,7 @@ ghost use Rattle.bgp_update.specs.Attributes as attributes;
 ghost use Rattle.bgp_update.specs.Hops.{by_hop};
 ghost use Rattle.bgp_update.specs.Multiprotocol.{FitsHop};
 ghost use Rattle.bgp_update.specs.Packing as packing;
-ghost use Rattle.bgp_update.specs.Packing.{FitsAggregator, HaveWidths, without_path, route_by, fields_bytes, hop_bytes, number_bytes, aggregator_bytes};
+ghost use Rattle.bgp_update.specs.Packing.{FitsAggregator, HaveWidths, without_path, route_by, fields_bytes, packed_hop_bytes, number_bytes, aggregator_bytes};
 ghost use Rattle.bgp_update.specs.Values.{kept_value};
 ghost use Rattle.bgp_update.specs.declared.next_hop.NextHop.{NextHop};
 ghost use Rattle.bgp_update.specs.declared.width.Width.TheVariants.{Four};
@@ -75,7 +75,7 @@ fn flags_of(fields: PlainFields, hop: &Option<WrittenHop<'_>>) -> u8
 #[inline(always)]
 fn push_hop(out: &mut FrontBytes, hop: &Option<WrittenHop<'_>>)
     requires { length out.old + 32 ≤ 50 }
-    ensures bytes { out.new ≡ out.old ++ hop_bytes hop.now }
+    ensures bytes { out.new ≡ out.old ++ packed_hop_bytes hop.now }
     ensures few { length out.new ≤ length out.old + 32 }
     ensures fits { IfSome hop.now FitsHop }
 {

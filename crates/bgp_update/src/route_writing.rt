@@ -4,7 +4,7 @@
 ghost use Rattle.std.specs.Prelude.{◌≡◌, ◌<◌, ◌^◌, ◌++◌, IfSome, OnOk};
 ghost use Rattle.bgp_update.specs.Multiprotocol.{FitsHop};
 ghost use Rattle.bgp_update.specs.Packing as packing;
-ghost use Rattle.bgp_update.specs.Packing.{FitsAggregator, IsWritable, HaveWidths, WritesRoute, fields_bytes, hop_bytes, number_bytes, aggregator_bytes};
+ghost use Rattle.bgp_update.specs.Packing.{FitsAggregator, IsWritable, HaveWidths, WritesRoute, fields_bytes, packed_hop_bytes, number_bytes, aggregator_bytes};
 ghost use Rattle.bgp_update.specs.Segments as segments;
 ghost use Rattle.bgp_update.specs.Segments.{IsPath, IsSegment, path_bytes, segment_bytes};
 
@@ -62,7 +62,7 @@ fn field_flags(route: &Route) -> u8
 }
 
 fn push_hop(out: &mut Vec<u8>, hop: Option<NextHop>) -> Result<(), Memory>
-    ensures bytes { OnOk result (out.new.items ≡ out.old.items ++ hop_bytes hop) }
+    ensures bytes { OnOk result (out.new.items ≡ out.old.items ++ packed_hop_bytes hop) }
     ensures fits { IfSome hop FitsHop }
 {
     match hop {

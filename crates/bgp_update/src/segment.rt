@@ -25,8 +25,8 @@ pub(crate) struct SegmentField<'a> {
     pub(crate) octets: &'a [u8],
 }
 
-fn kind_of(number: u8) -> Option<SegmentKind>
-    ensures { result ≡ segments_spec.kind_of number }
+fn segment_kind_of(number: u8) -> Option<SegmentKind>
+    ensures { result ≡ segments_spec.segment_kind_of number }
 {
     match number {
         1 => Some(SegmentKind::AsSet),
@@ -55,7 +55,7 @@ pub(crate) fn segment_field_at(
         (segments_spec.segment_field_at (number_len width) bytes.now) }
 {
     let (number, rest) = byte_at(bytes, Fault::BadPath)?;
-    let kind = kind_of(number).ok_or(Fault::BadPath)?;
+    let kind = segment_kind_of(number).ok_or(Fault::BadPath)?;
     let (count, rest) = byte_at(rest, Fault::BadPath)?;
     if count == 0 {
         return Err(Fault::BadPath);

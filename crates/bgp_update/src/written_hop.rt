@@ -2,7 +2,7 @@
 
 ghost use Rattle.std.specs.Prelude.{◌≡◌, ◌≤◌, ◌<◌, IsTrue, Some, length};
 ghost use Rattle.bgp_update.specs.Multiprotocol.{FitsHop, is_hop_len, next_hop_of};
-ghost use Rattle.bgp_update.specs.Packing.{hop_bytes, hop_code};
+ghost use Rattle.bgp_update.specs.Packing.{packed_hop_bytes, hop_code};
 
 use crate::next_hop::NextHop;
 use byteorder::{BigEndian, ByteOrder};
@@ -40,7 +40,7 @@ impl<'a> WrittenHop<'a> {
     /// Its bytes.
     #[inline(always)]
     pub fn as_bytes(&self) -> &'a [u8]
-        ensures bytes { result.now ≡ hop_bytes (Some self.now) }
+        ensures bytes { result.now ≡ packed_hop_bytes (Some self.now) }
         ensures few { length result.now ≤ 32 }
         ensures fits { FitsHop self.now }
     {

@@ -12,7 +12,7 @@ use Rattle.std.proofs.lemmas.List.{append-nil, map-append}
 use Rattle.peer_units.specs.declared.unit.Damage.{Damage}
 use Rattle.peer_units.specs.Plain.{Found, Unit as ReplayUnit}
 use Rattle.peer_units.specs.declared.unit.Found.TheVariants as found
-use Rattle.mrt_body.specs.ToCome.{UnitsState, GivesPending, KeepsPlan, GivesAllBefore, as_found, found_to_come, units_left}
+use Rattle.mrt_body.specs.ToCome.{UnitsState, GivesPending, KeepsPlan, GivesAllBefore, as_found, found_to_come, most_units_left}
 use Rattle.mrt_body.proofs.FilesLaws.{gives_found}
 use Rattle.mrt_body.specs.Readings.{Gives}
 use Rattle.lane_deal.specs.Results.{IfAnswered}
@@ -72,7 +72,7 @@ TakesUnits-one remaining failures u u' files files' given gives plan = record {
 pub TakesUnits-pending : (u u' : UnitsState) (k : Known) (units : List ReplayUnit) → u.state ≡ states.Reading → GivesPending u u' units → TakesUnits u k u' k (as_found units)
 TakesUnits-pending u u' k units reading gives = record {
   found = gives_found u u' k units gives;
-  few = (let a = ap units_left gives.0 in let n = ap length gives.1 ∙ length-append units u'.pending in let m = ap length (all_units units) in omega arith);
+  few = (let a = ap most_units_left gives.0 in let n = ap length gives.1 ∙ length-append units u'.pending in let m = ap length (all_units units) in omega arith);
   plan = (ap (λ (v : UnitsState). v.count) gives.0, ap (λ (v : UnitsState). v.max_records) gives.0, ap (λ (v : UnitsState). v.selection) gives.0);
   state = ap (λ (v : UnitsState). v.state) gives.0;
   idle = λ failed. absurd (cc);

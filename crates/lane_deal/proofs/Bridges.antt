@@ -17,7 +17,7 @@ use Rattle.lane_deal.specs.LaneSenders.{in_lane}
 use Rattle.lane_deal.specs.LaneRings.{IsReady, LaneStands}
 use Rattle.lane_deal.specs.Lanes.{number_of_peer, lane_units}
 use Rattle.peer_tables.specs.Numbers.{number_in}
-use Rattle.lane_deal.specs.Numbers.{with_number, with_numbers, units_in}
+use Rattle.lane_deal.specs.Numbers.{with_number, with_numbers, without_numbers}
 use Rattle.lane_deal.specs.Replayers.{LaneState, LaneStandsFor}
 use Rattle.lane_deal.specs.Seating.{seat_by, seats_by}
 use Rattle.lane_deal.specs.Shown.{lane_state, lane_states, SeatsHold}
@@ -39,7 +39,7 @@ any_filtered p r (x ∷ xs) e =
 
 -- ---- numbers
 
-pub units_numbered : (keys : List PeerKey) (units : List ReplayUnit) → units_in (with_numbers keys units) ≡ units
+pub units_numbered : (keys : List PeerKey) (units : List ReplayUnit) → without_numbers (with_numbers keys units) ≡ units
 units_numbered keys [] = refl
 units_numbered keys (u ∷ units) = ap (λ l. u ∷ l) (units_numbered keys units)
 
@@ -48,9 +48,9 @@ numbered_same keys others units h =
     map_alike (with_number keys) (with_number others) units (all_more units (λ u e. ap (λ n. record { number = n; unit = u }) e) h)
 
 -- items that have their peers' numbers
-renumbered : (keys : List PeerKey) (items : List PeerUnit) → AllByRecursion (λ x. with_number keys x.unit ≡ x) items → with_numbers keys (units_in items) ≡ items
+renumbered : (keys : List PeerKey) (items : List PeerUnit) → AllByRecursion (λ x. with_number keys x.unit ≡ x) items → with_numbers keys (without_numbers items) ≡ items
 renumbered keys [] h = refl
-renumbered keys (x ∷ items) h = ap (λ i. i ∷ with_numbers keys (units_in items)) h.0 ∙ ap (λ l. x ∷ l) (renumbered keys items h.1)
+renumbered keys (x ∷ items) h = ap (λ i. i ∷ with_numbers keys (without_numbers items)) h.0 ∙ ap (λ l. x ∷ l) (renumbered keys items h.1)
 
 -- the units that were dealt, with their numbers
 abbrev pub dealt_items : List ReplayUnit → List PeerUnit
@@ -110,16 +110,16 @@ module _ {M A : Type 0} {g : Ghosts M RouteId A} {a : AddressGhosts A} (lane_of 
       let proper = subst (AllByRecursion (λ x. with_number keys x.unit ≡ x)) (sym whole) (all_mapped (with_number keys) (λ x. with_number keys x.unit ≡ x) own (all_of own (λ u. refl))) in
       let taken_is = renumbered keys h.taken (front_of (λ x. with_number keys x.unit ≡ x) h.taken waits proper) in
       let sent_is = renumbered keys waits (back_of (λ x. with_number keys x.unit ≡ x) h.taken waits proper) in
-      let units_whole : units_in h.taken ++ units_in waits ≡ own = sym (map-append (λ x. x.unit) h.taken waits) ∙ ap units_in whole ∙ units_numbered keys own in
+      let units_whole : without_numbers h.taken ++ without_numbers waits ≡ own = sym (map-append (λ x. x.unit) h.taken waits) ∙ ap without_numbers whole ∙ units_numbered keys own in
       let stay = subst (AllByRecursion (λ u. number_of_peer all u.peer ≡ number_of_peer units u.peer)) (sym units_whole) own_stay in
-      let taken_stay = front_of (λ u. number_of_peer all u.peer ≡ number_of_peer units u.peer) (units_in h.taken) (units_in waits) stay in
-      let waiting_stay = back_of (λ u. number_of_peer all u.peer ≡ number_of_peer units u.peer) (units_in h.taken) (units_in waits) stay in
-      let same : waits ≡ with_numbers (peers_of all) (units_in waits) = sym sent_is ∙ sym (numbered_same (peers_of all) keys (units_in waits) waiting_stay) in
-      let seen : (q : PeerKey) → is_seen (units_in h.taken) q ≡ true → is_seen all q ≡ true =
-      λ q e. seen_more units more q (any_filtered (λ u. peer_eq u.peer q) (λ u. eqb (lane_of (number_of_peer units u.peer)) lane) units (ap (λ l. is_seen l q) (sym units_whole) ∙ seen_more (units_in h.taken) (units_in waits) q e)) in
+      let taken_stay = front_of (λ u. number_of_peer all u.peer ≡ number_of_peer units u.peer) (without_numbers h.taken) (without_numbers waits) stay in
+      let waiting_stay = back_of (λ u. number_of_peer all u.peer ≡ number_of_peer units u.peer) (without_numbers h.taken) (without_numbers waits) stay in
+      let same : waits ≡ with_numbers (peers_of all) (without_numbers waits) = sym sent_is ∙ sym (numbered_same (peers_of all) keys (without_numbers waits) waiting_stay) in
+      let seen : (q : PeerKey) → is_seen (without_numbers h.taken) q ≡ true → is_seen all q ≡ true =
+      λ q e. seen_more units more q (any_filtered (λ u. peer_eq u.peer q) (λ u. eqb (lane_of (number_of_peer units u.peer)) lane) units (ap (λ l. is_seen l q) (sym units_whole) ∙ seen_more (without_numbers h.taken) (without_numbers waits) q e)) in
       record {
-        taken = units_in h.taken;
-        waiting = units_in waits;
+        taken = without_numbers h.taken;
+        waiting = without_numbers waits;
         whole = units_whole;
         ring =
             record {
@@ -132,7 +132,7 @@ module _ {M A : Type 0} {g : Ghosts M RouteId A} {a : AddressGhosts A} (lane_of 
         seats = h.sessions (number_of_peer all) (record {
           each =
               subst (AllByRecursion (λ item. number_of_peer all item.unit.peer ≡ item.number)) taken_is
-              (all_mapped (with_number keys) (λ item. number_of_peer all item.unit.peer ≡ item.number) (units_in h.taken) taken_stay);
+              (all_mapped (with_number keys) (λ item. number_of_peer all item.unit.peer ≡ item.number) (without_numbers h.taken) taken_stay);
           apart = λ p q seen_p seen_q e.
               some_is p q
               (sym (listed_gets (peers_of all) p (listed_peer all p (seen p seen_p))) ∙ ap (slice_get (peers_of all)) e ∙ listed_gets (peers_of all) q (listed_peer all q (seen q seen_q)));

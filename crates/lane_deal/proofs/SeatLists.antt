@@ -18,7 +18,7 @@ use Rattle.peer_tables.specs.Tables.{Seat}
 use Rattle.peer_tables.specs.declared.tables.Seated.{Seated}
 use Rattle.lane_deal.specs.Plain.{PeerUnit}
 use Rattle.peer_tables.specs.Numbers.{AreApart, number_in}
-use Rattle.lane_deal.specs.Numbers.{units_in}
+use Rattle.lane_deal.specs.Numbers.{without_numbers}
 use Rattle.lane_deal.specs.Seating.{seat_by, seats_by, AreNumbered, HoldsUnits, new_seat, SeatFor, TakenAt}
 use Rattle.lane_deal.proofs.Numbering.{numbered_peers, numbers_of_positions}
 use Rattle.peer_tables.proofs.ShareLaws.{same_peer}
@@ -129,9 +129,9 @@ module _ (s₀ s₁ s₂ : List Seat) (taken : List PeerUnit) (n position : ℕ)
   item = record { number = n; unit = u }
 
   abbrev before : List ReplayUnit
-  before = units_in taken
+  before = without_numbers taken
 
-  one_more : units_in (taken ++ item ∷ []) ≡ before ++ u ∷ []
+  one_more : without_numbers (taken ++ item ∷ []) ≡ before ++ u ∷ []
   one_more = map-append (λ i. i.unit) taken (item ∷ [])
 
   module _ (number : PeerKey → ℕ) (a : AreNumbered number (taken ++ item ∷ [])) where
@@ -148,10 +148,10 @@ module _ (s₀ s₁ s₂ : List Seat) (taken : List PeerUnit) (n position : ℕ)
     seats_before : seats_by number before ≡ s₀
     seats_before = h number numbered_before
 
-    seen_own : is_seen (units_in (taken ++ item ∷ [])) u.peer ≡ true
+    seen_own : is_seen (without_numbers (taken ++ item ∷ [])) u.peer ≡ true
     seen_own = ap (λ l. is_seen l u.peer) one_more ∙ seen_last before u
 
-    taken_found : s₁ ≡ s₀ → position < length s₀ → ((d : Seat) → (get_or s₀ position d).number ≡ n) → seats_by number (units_in (taken ++ item ∷ [])) ≡ s₂
+    taken_found : s₁ ≡ s₀ → position < length s₀ → ((d : Seat) → (get_or s₀ position d).number ≡ n) → seats_by number (without_numbers (taken ++ item ∷ [])) ≡ s₂
     taken_found same within at =
         let ps = peers_of before in
         let k = get_or ps position u.peer in
@@ -159,7 +159,7 @@ module _ (s₀ s₁ s₂ : List Seat) (taken : List PeerUnit) (n position : ℕ)
         let l : position < length ps = (let e = ap length seats_before in let m = length-map ps (seat_by number before) in omega arith) in
         let seat_is : get_or s₀ position d ≡ seat_by number before k = ap (λ l. get_or l position d) (sym seats_before) ∙ get_or-map (seat_by number before) ps position u.peer d l in
         let number_is : number k ≡ n = ap (λ s. s.number) (sym seat_is) ∙ at d in
-        let seen : is_seen (units_in (taken ++ item ∷ [])) k ≡ true = ap (λ l. is_seen l k) one_more ∙ seen_more before (u ∷ []) k (seen_at before position k (slice_get-get_or ps position u.peer l)) in
+        let seen : is_seen (without_numbers (taken ++ item ∷ [])) k ≡ true = ap (λ l. is_seen l k) one_more ∙ seen_more before (u ∷ []) k (seen_at before position k (slice_get-get_or ps position u.peer l)) in
         let is : u.peer ≡ k = a.apart u.peer k seen_own seen (number_own ∙ sym number_is) in
         let here : get_or s₁ position d ≡ seat_by number before k = ap (λ l. get_or l position d) same ∙ seat_is in
         let took = q (units_of_peer before k) d (ap (λ s. s.session) here) in
@@ -167,7 +167,7 @@ module _ (s₀ s₁ s₂ : List Seat) (taken : List PeerUnit) (n position : ℕ)
         ∙ ap (λ l. set l position (record { number = number k; key = k; session = session_of (units_of_peer before k ++ u ∷ []) })) (seats_before ∙ sym same)
         ∙ ap (λ s. set s₁ position (record { number = s.number; key = s.key; session = session_of (units_of_peer before k ++ u ∷ []) })) (sym here) ∙ sym took
 
-    taken_new : list_any (λ s. eqb s.number n) s₀ ≡ false → position ≡ length s₀ → s₁ ≡ s₀ ++ new_seat n u.peer ∷ [] → seats_by number (units_in (taken ++ item ∷ [])) ≡ s₂
+    taken_new : list_any (λ s. eqb s.number n) s₀ ≡ false → position ≡ length s₀ → s₁ ≡ s₀ ++ new_seat n u.peer ∷ [] → seats_by number (without_numbers (taken ++ item ∷ [])) ≡ s₂
     taken_new none at grown =
         let ps = peers_of before in
         let d : Seat = new_seat n u.peer in

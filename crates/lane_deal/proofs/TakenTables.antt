@@ -26,7 +26,7 @@ use Rattle.lane_deal.specs.Plain.{PeerUnit}
 use Rattle.lane_deal.specs.declared.schedule.OneLane.{OneLane}
 use Rattle.lane_deal.specs.Lanes.{number_of_peer, lane_of_unit, seats_of_lane}
 use Rattle.peer_tables.specs.Numbers.{number_in}
-use Rattle.lane_deal.specs.Numbers.{with_number, with_numbers, units_in}
+use Rattle.lane_deal.specs.Numbers.{with_number, with_numbers, without_numbers}
 use Rattle.lane_deal.specs.OneLanes.{OneLaneState, one_lane_state, seats_of_lanes}
 use Rattle.lane_deal.specs.Schedules.{LanesState, IsShared}
 use Rattle.lane_deal.specs.Seating.{seats_by, HoldsUnits}
@@ -191,8 +191,8 @@ module _ {M A : Type 0} {g : Ghosts M RouteId A} {a : AddressGhosts A} where
   lane_seats : (all waiting taken : List ReplayUnit) (x : OneLane M A g a) → LaneShows all x waiting taken → ((q : PeerKey) → is_seen taken q ≡ true → is_seen all q ≡ true) → map seat_of x.seats.seats.items ≡ seats_of_lane all taken
   lane_seats all waiting taken x p seen =
       let keys = peers_of all in
-      let same : units_in (with_numbers keys taken) ≡ taken = units_numbered keys taken in
-      let listed : (q : PeerKey) → is_seen (units_in (with_numbers keys taken)) q ≡ true → slice_get keys (number_in keys q) ≡ Some q =
+      let same : without_numbers (with_numbers keys taken) ≡ taken = units_numbered keys taken in
+      let listed : (q : PeerKey) → is_seen (without_numbers (with_numbers keys taken)) q ≡ true → slice_get keys (number_in keys q) ≡ Some q =
       λ q e. listed_gets keys q (listed_peer all q (seen q (ap (λ l. is_seen l q) (sym same) ∙ e))) in
       sym (p.seats (number_of_peer all) (record { each = all_mapped (with_number keys) (λ i. number_in keys i.unit.peer ≡ i.number) taken (all_of taken (λ u. refl)); apart = λ a b seen_a seen_b e. some_is a b (sym (listed a seen_a) ∙ ap (slice_get keys) e ∙ listed b seen_b) }))
       ∙ ap (seats_by (number_of_peer all)) same

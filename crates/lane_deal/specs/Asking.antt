@@ -9,7 +9,7 @@ use Rattle.mrt_body.specs.Units.{unit_of}
 use Rattle.peer_units.specs.declared.unit.Damage.{Damage}
 use Rattle.peer_units.specs.Plain.{Found}
 use Rattle.peer_units.specs.declared.unit.Found.TheVariants as found
-use Rattle.mrt_body.specs.ToCome.{UnitsState, TakesFound, KeepsPlan, HasMoreRecords, FailsBehind, found_to_come, units_left}
+use Rattle.mrt_body.specs.ToCome.{UnitsState, TakesFound, KeepsPlan, HasMoreRecords, FailsBehind, found_to_come, most_units_left}
 
 abbrev pub as_refused : List Damage → List Found
 as_refused listed = map (λ damage. found.Refused damage) listed
@@ -36,7 +36,7 @@ pub record StopsBehind (u : UnitsState) (known : List (Option (List ℕ))) (u' :
 pub record TakesUnits (u : UnitsState) (known : List (Option (List ℕ))) (u' : UnitsState)
     (known' : List (Option (List ℕ))) (given : List Found) : Type 0 where
   pub found : TakesFound u known u' known' given
-  pub few : length (filter_map unit_of given) + units_left u' ≤ units_left u
+  pub few : length (filter_map unit_of given) + most_units_left u' ≤ most_units_left u
   pub plan : KeepsPlan u u'
   pub state : u'.state ≡ u.state
   pub idle : u.state ≡ states.Failed → (u' ≡ u) × (given ≡ [])

@@ -4,8 +4,8 @@ use Rattle.lane_deal.specs.declared.dealing.ByBlocks.{ByBlocks}
 use Rattle.lane_deal.specs.declared.dealing.ByList.{ByList}
 
 -- how many peers in a row share a lane
-abbrev pub block_size : ByBlocks → ℕ
-block_size d = d.size
+abbrev pub peer_block_size : ByBlocks → ℕ
+peer_block_size d = d.size
 
 -- the lanes that a list names, by peer
 abbrev pub listed_lanes : ByList → List ℕ

@@ -12,5 +12,5 @@ with_number keys unit = record { number = number_in keys unit.peer; unit = unit 
 abbrev pub with_numbers : List PeerKey → List ReplayUnit → List PeerUnit
 with_numbers keys units = map (with_number keys) units
 
-abbrev pub units_in : List PeerUnit → List ReplayUnit
-units_in items = map (λ item. item.unit) items
+abbrev pub without_numbers : List PeerUnit → List ReplayUnit
+without_numbers items = map (λ item. item.unit) items

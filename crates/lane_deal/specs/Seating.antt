@@ -7,7 +7,7 @@ use Rattle.adj_rib.specs.Sessions.{session_of}
 use Rattle.peer_tables.specs.Peers.{peer_eq, peers_of, units_of_peer}
 use Rattle.peer_tables.specs.Tables.{Seat}
 use Rattle.lane_deal.specs.Plain.{PeerUnit}
-use Rattle.lane_deal.specs.Numbers.{units_in}
+use Rattle.lane_deal.specs.Numbers.{without_numbers}
 
 abbrev pub seat_by : (PeerKey → ℕ) → List ReplayUnit → PeerKey → Seat
 seat_by number units q = record { number = number q; key = q; session = session_of (units_of_peer units q) }
@@ -19,12 +19,12 @@ seats_by number units = map (seat_by number units) (peers_of units)
 -- each unit has its peer's number, and different peers have different ones
 pub record AreNumbered (number : PeerKey → ℕ) (items : List PeerUnit) : Type 0 where
   pub each : AllByRecursion (λ item. number item.unit.peer ≡ item.number) items
-  pub apart : (p q : PeerKey) → list_any (λ u. peer_eq u.peer p) (units_in items) ≡ true →
-      list_any (λ u. peer_eq u.peer q) (units_in items) ≡ true → number p ≡ number q → p ≡ q
+  pub apart : (p q : PeerKey) → list_any (λ u. peer_eq u.peer p) (without_numbers items) ≡ true →
+      list_any (λ u. peer_eq u.peer q) (without_numbers items) ≡ true → number p ≡ number q → p ≡ q
 
 -- the sessions stand for these units, where their numbers are those of their peers
 abbrev pub HoldsUnits : List Seat → List PeerUnit → Type 0
-HoldsUnits seats items = (number : PeerKey → ℕ) → AreNumbered number items → seats_by number (units_in items) ≡ seats
+HoldsUnits seats items = (number : PeerKey → ℕ) → AreNumbered number items → seats_by number (without_numbers items) ≡ seats
 
 abbrev pub new_seat : ℕ → PeerKey → Seat
 new_seat number key = record { number = number; key = key; session = session_of [] }

@@ -57,27 +57,27 @@ pub struct ByBlocks {
 }
 
 impl ByBlocks {
-    ghost use Rattle.lane_deal.specs.Dealings.{block_size};
+    ghost use Rattle.lane_deal.specs.Dealings.{peer_block_size};
 
     /// Blocks of `size` peers.
     pub fn new(size: usize) -> ByBlocks
         requires { 1 ≤ size }
-        ensures { block_size result ≡ size }
+        ensures { peer_block_size result ≡ size }
     {
         ByBlocks { size }
     }
 }
 
 impl Dealing for ByBlocks {
-    ghost use Rattle.lane_deal.specs.Dealings.{block_size};
+    ghost use Rattle.lane_deal.specs.Dealings.{peer_block_size};
 
-    ghost lane_of = { λ d peer workers. peer / block_size d % workers };
+    ghost lane_of = { λ d peer workers. peer / peer_block_size d % workers };
 
     fn lane(&self, peer: usize, workers: usize) -> usize {
         peer / self.size % workers
     }
 
-    ghost is_below = { λ d peer workers h. mod_below (peer / block_size d) workers h };
+    ghost is_below = { λ d peer workers h. mod_below (peer / peer_block_size d) workers h };
 }
 
 /// A list gives each peer's lane: `list[peer] % workers`, or 0 past its end.

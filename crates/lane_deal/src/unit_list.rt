@@ -38,7 +38,7 @@ pub type UnitListOf<F> = UnitList<Prefix<F>, FamilyMark<F>>;
 const BYTES_EACH: usize = 64;
 
 /// How many bytes a list that is filled again may have room for. One that long messages enlarged is freed.
-const MOST_KEPT: usize = 16_384;
+const MOST_LIST_BYTES: usize = 16_384;
 
 /// How many peers a list that is filled again may keep: few enough to look through them. They are usually those of its
 /// next units.
@@ -108,7 +108,7 @@ impl<F: Unicast> UnitList<Prefix<F>, FamilyMark<F>> {
 
     /// Whether its memory should be kept for other units.
     pub fn is_worth_keeping(&self) -> bool {
-        self.bytes.capacity() <= MOST_KEPT
+        self.bytes.capacity() <= MOST_LIST_BYTES
     }
 
     /// Makes room for so many units, and for some bytes of each.

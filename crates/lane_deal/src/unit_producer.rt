@@ -52,14 +52,14 @@ fn list_size(capacity: usize) -> usize
 }
 
 /// The maximum number of emptied lists that wait to be filled again.
-const MOST_EMPTIED: usize = 64;
+const MOST_RECYCLED: usize = 64;
 
 /// Returns how many emptied lists may wait to be filled again, for a ring of so many units: as many as the ring holds,
 /// and one that is being filled, within bounds.
 pub fn recycled_room(capacity: usize) -> usize {
     (capacity / list_size(capacity))
         .saturating_add(1)
-        .min(MOST_EMPTIED)
+        .min(MOST_RECYCLED)
 }
 
 /// Takes out the first numbers, and returns their sum.

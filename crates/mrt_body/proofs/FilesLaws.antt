@@ -22,7 +22,7 @@ use Rattle.peer_units.specs.declared.unit.Found.TheVariants as found
 use Rattle.mrt_frame.specs.Cuts.{cuts, fault_at}
 use Rattle.mrt_body.specs.RibDumps.{DumpsState, no_dumps}
 use Rattle.mrt_body.specs.Units.{dumps_behind_cuts, found_in, found_in_files, all_cuts, is_whole, is_aside, unit_of}
-use Rattle.mrt_body.specs.ToCome.{UnitsState, in_next_file, as_found, refusals, units_left, dumps_here, found_here, found_left, found_to_come, cuts_to_come, Passes, TakesFound, GivesPending, StaysInFile, LeavesFile, Steps, HasRecord, HasMoreRecords, HasCause, HasCauseInFile, before_failure, FailsInRecord, FailsBehind, GivesAllBefore, fresh_units}
+use Rattle.mrt_body.specs.ToCome.{UnitsState, in_next_file, as_found, refusals, most_units_left, dumps_here, found_here, found_left, found_to_come, cuts_to_come, Passes, TakesFound, GivesPending, StaysInFile, LeavesFile, Steps, HasRecord, HasMoreRecords, HasCause, HasCauseInFile, before_failure, FailsInRecord, FailsBehind, GivesAllBefore, fresh_units}
 use Rattle.mrt_body.specs.Readings.{Gives, Lowers, Stops, StopsInFile, IsBounded, GoesOn}
 use Rattle.mrt_body.proofs.IndexLaws.{found_in_file-is}
 
@@ -91,7 +91,7 @@ each_unit (unit ∷ units) = ap suc (each_unit units)
 pub gives_pending : {R : Type 0} (remaining : R → Option Bytes) (fails : R → ℕ) (a b c : UnitsState) (start files : List R) (given : List ReplayUnit) → Gives remaining fails a start b files [] → GivesPending b c given → Gives remaining fails a start c files (as_found given)
 gives_pending remaining fails a b c start files given before gives =
     let size = ap length gives.1 ∙ length-append given c.pending in
-    let units = ap units_left gives.0 in
+    let units = ap most_units_left gives.0 in
     let answers : length (as_found given) ≡ length given = length-map given (λ u. found.Unit u) in
     record {
       found = TakesFound-more a b c (map remaining start) (map remaining files) (map remaining files) [] (as_found given) before.found (gives_found b c (map remaining files) given gives);

@@ -8,7 +8,7 @@ use Rattle.mrt_frame.proofs.FieldLaws.{IsBytes}
 use Rattle.bgp_update.proofs.Readings.{mapped_err}
 use Rattle.peer_units.specs.declared.unit.PeerKey.{PeerKey}
 use Rattle.mrt_body.specs.Many.{many}
-use Rattle.mrt_body.specs.Indexes.{addr_at, asn_at, has_ipv6, asn_width, peer_bytes, FitsPeer, IndexForm, index_bytes, FitsIndex, written_peer_at, IndexHead, index_head_at, index_in, peers_of, peers_in}
+use Rattle.mrt_body.specs.Indexes.{addr_at, asn_at, has_ipv6, asn_width, peer_bytes, FitsPeer, IndexForm, index_bytes, FitsIndex, written_peer_at, IndexHead, index_head_at, index_in, peers_of_index, peers_in}
 use Rattle.mrt_body.specs.Agreement.{IsIndexBody}
 use Rattle.mrt_body.proofs.ManyLaws.{BreaksOff, GoesOn, many-unread, many-goes_on}
 use Rattle.peer_units.proofs.MessageLaws.{ok_never}
@@ -76,7 +76,7 @@ index_goes_on form more h some =
 
 pub peers_refused : (body : List ℕ) (fault : Fault) → IsBytes body → peers_in body ≡ Err fault → ((fault ≡ TrailingBytes) × IndexAndMore body) ⊎ (fault ≡ ShortRecord)
 unfolding peers_in
-peers_refused body fault fine e = index_refused body fault fine (mapped_err (index_in body) peers_of fault e)
+peers_refused body fault fine e = index_refused body fault fine (mapped_err (index_in body) peers_of_index fault e)
 
 pub peers_go_on : (front more : List ℕ) (peers : List PeerKey) → IsIndexBody front peers → 0 < length more → peers_in (front ++ more) ≡ Err TrailingBytes
 unfolding peers_in

@@ -11,7 +11,7 @@ use Rattle.peer_units.specs.declared.unit.PeerAddr.{PeerAddr}
 use Rattle.peer_units.specs.declared.unit.PeerAddr.TheVariants.{V4, V6}
 use Rattle.peer_units.specs.declared.unit.PeerKey.{PeerKey}
 use Rattle.mrt_body.specs.Many.{many}
-use Rattle.mrt_body.specs.Indexes.{addr_bytes, is_ipv6, FitsAddr, asn_bytes, addr_at, asn_at, WrittenPeer, has_ipv6, asn_width, peer_bytes, FitsPeer, IndexForm, index_bytes, FitsIndex, written_peer_at, IndexHead, index_head_at, index_in, peers_of, peers_in}
+use Rattle.mrt_body.specs.Indexes.{addr_bytes, is_ipv6, FitsAddr, asn_bytes, addr_at, asn_at, WrittenPeer, has_ipv6, asn_width, peer_bytes, FitsPeer, IndexForm, index_bytes, FitsIndex, written_peer_at, IndexHead, index_head_at, index_in, peers_of_index, peers_in}
 use Rattle.mrt_body.specs.Agreement.{IsIndexBody}
 use Rattle.mrt_body.proofs.ManyLaws.{Takes, Again, many-is, many-again}
 
@@ -144,9 +144,9 @@ index_again form h =
 pub index_body-is : (body : List ℕ) (peers : List PeerKey) → IsBytes body → peers_in body ≡ Ok peers → IsIndexBody body peers
 unfolding peers_in
 index_body-is body peers fine e =
-    let f = bind_ok (index_in body) (λ form. Ok (peers_of form)) peers e in
+    let f = bind_ok (index_in body) (λ form. Ok (peers_of_index form)) peers e in
     let t = index_takes body f.0 fine f.1 in
-    record { form = f.0; fits = t.fits; spelled = t.parts; said = sym (ok_is (peers_of f.0) peers f.2) }
+    record { form = f.0; fits = t.fits; spelled = t.parts; said = sym (ok_is (peers_of_index f.0) peers f.2) }
 
 pub index_body-again : (body : List ℕ) (peers : List PeerKey) → IsIndexBody body peers → peers_in body ≡ Ok peers
 unfolding peers_in

@@ -12,7 +12,7 @@ use Rattle.mrt_body.specs.declared.body_kind.BodyKind.TheVariants as content
 use Rattle.peer_units.specs.declared.state_rule.StateRule.{StateRule}
 use Rattle.peer_units.specs.declared.unit.PeerKey.{PeerKey}
 use Rattle.peer_units.specs.Plain.{Unit as ReplayUnit}
-use Rattle.mrt_body.specs.Indexes.{index_bytes, peers_of, peers_in}
+use Rattle.mrt_body.specs.Indexes.{index_bytes, peers_of_index, peers_in}
 use Rattle.mrt_body.specs.RibRecords.{rib_bytes, rib_in}
 use Rattle.mrt_body.specs.Units.{units_in, rib_units, message_unit, states_unit}
 use Rattle.mrt_body.specs.Agreement.{IsRibBody}
@@ -38,7 +38,7 @@ module _ (family : FamilyOf) (rule : StateRule) (at : RecordAt) (extended : Bool
       units = [];
       parts = h.1.parts;
       some = h.1.some;
-      agrees = ((peers_of h.1.form, record { form = h.1.form; fits = h.1.fits; spelled = refl; said = refl }), refl);
+      agrees = ((peers_of_index h.1.form, record { form = h.1.form; fits = h.1.fits; spelled = refl; said = refl }), refl);
     },
   )
 

@@ -11,7 +11,7 @@ use Rattle.peer_units.specs.declared.state_rule.StateRule.{StateRule}
 use Rattle.peer_units.specs.declared.unit.PeerKey.{PeerKey}
 use Rattle.peer_units.specs.declared.unit.Payload.TheVariants.{State, Message}
 use Rattle.peer_units.specs.Plain.{Unit as ReplayUnit}
-use Rattle.mrt_body.specs.Indexes.{IndexForm, FitsIndex, index_bytes, peers_of}
+use Rattle.mrt_body.specs.Indexes.{IndexForm, FitsIndex, index_bytes, peers_of_index}
 use Rattle.mrt_body.specs.RibRecords.{RibForm, FitsRib, rib_bytes}
 use Rattle.mrt_body.specs.Bgp4mp.{SessionForm, FitsSession, session_bytes, session_peer, microseconds_bytes, FitsMicroseconds}
 use Rattle.mrt_body.specs.Units.{rib_units, session_unit}
@@ -21,7 +21,7 @@ pub record IsIndexBody (body : List ℕ) (peers : List PeerKey) : Type 0 where
   pub form : IndexForm
   pub fits : FitsIndex form
   pub spelled : body ≡ index_bytes form
-  pub said : peers ≡ peers_of form
+  pub said : peers ≡ peers_of_index form
 
 -- a RIB record of the family beside an index of these peers
 pub record IsRibBody

@@ -124,8 +124,8 @@ index_in body =
 
 -- ---- the peers themselves
 
-abbrev pub peers_of : IndexForm → List PeerKey
-peers_of form = map peer_of form.peers
+abbrev pub peers_of_index : IndexForm → List PeerKey
+peers_of_index form = map peer_of form.peers
 
 unfoldable pub peer_at : List ℕ → Reading PeerKey
 peer_at bytes = written_peer_at bytes >>= λ p. Ok (peer_of p.0, p.1)
@@ -135,4 +135,4 @@ peer_count_at body = index_head_at body >>= λ head. Ok (head.0.count, head.1)
 
 -- the peers of the table that a body spells
 unfoldable pub peers_in : List ℕ → Result (List PeerKey) Fault
-peers_in body = index_in body >>= λ form. Ok (peers_of form)
+peers_in body = index_in body >>= λ form. Ok (peers_of_index form)

@@ -9,7 +9,7 @@ use Rattle.mrt_frame.specs.declared.read_state.ReadState.TheVariants.{Reading, F
 use Rattle.peer_units.specs.Plain.{Found}
 use Rattle.mrt_body.specs.Units.{unit_of}
 use Rattle.peer_units.specs.declared.unit.Damage.{Damage}
-use Rattle.mrt_body.specs.ToCome.{UnitsState, CutsOne, FailsInRecord, GivesAllBefore, HasCause, HasCauseInFile, HasEnded, KeepsPlan, NothingToCome, TakesFound, answers_left, steps_left, unit_limit, units_left}
+use Rattle.mrt_body.specs.ToCome.{UnitsState, CutsOne, FailsInRecord, GivesAllBefore, HasCause, HasCauseInFile, HasEnded, KeepsPlan, NothingToCome, TakesFound, answers_left, steps_left, unit_limit, most_units_left}
 
 -- ---- a call over all files, whose readers still give these bytes and failed so often
 
@@ -19,7 +19,7 @@ pub record Gives {R : Type 0} (remaining : R → Option (List ℕ)) (failures : 
     (old : UnitsState) (files : List R) (new : UnitsState) (files' : List R) (given : List Found) : Type 0 where
   pub found : TakesFound old (map remaining files) new (map remaining files') given
   pub fewer : answers_left new + length given ≤ answers_left old
-  pub few : length (filter_map unit_of given) + units_left new ≤ units_left old
+  pub few : length (filter_map unit_of given) + most_units_left new ≤ most_units_left old
   pub reading : old.state ≡ Reading
   pub state : new.state ≡ Reading
   pub counted : map failures files' ≡ map failures files
@@ -66,7 +66,7 @@ pub record Lowers {R : Type 0} (failures : R → ℕ)
     (old : UnitsState) (device : R) (new : UnitsState) (device' : R) (refused : Option Damage) : Type 0 where
   pub steps : steps_left new < steps_left old
   pub fewer : answers_left new + length (option_to_list refused) ≤ answers_left old
-  pub few : units_left new ≤ units_left old
+  pub few : most_units_left new ≤ most_units_left old
   pub state : new.state ≡ Reading
   pub counted : failures device' ≡ failures device
 

@@ -127,12 +127,12 @@ abbrev pub unit_limit : ℕ
 unit_limit = 131070
 
 -- at most so many units can still come, whatever the readers give: those that pend, and those of each record
-abbrev pub units_left : UnitsState → ℕ
-units_left u = (u.max_records - u.records) * unit_limit + (length u.pending + length u.dumps.heard)
+abbrev pub most_units_left : UnitsState → ℕ
+most_units_left u = (u.max_records - u.records) * unit_limit + (length u.pending + length u.dumps.heard)
 
 -- at most so many answers can still come: the units, and for each file a rest
 abbrev pub answers_left : UnitsState → ℕ
-answers_left u = units_left u + (u.count - u.file)
+answers_left u = most_units_left u + (u.count - u.file)
 
 -- what always holds
 pub record StandsWithin

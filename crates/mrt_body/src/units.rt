@@ -421,11 +421,11 @@ fn consume_entries<F: Unicast>(index: &mut Option<Index<F>>, count: usize)
 
 /// How many bytes the memory may have that is kept for the next record. A record of the longest BGP message has
 /// 65,535 and some more (RFC 8654).
-const MOST_KEPT: usize = 1 << 17;
+const MOST_KEPT_BYTES: usize = 1 << 17;
 
 /// Returns this memory, unless it is larger than what is kept.
 fn kept_block(block: Vec<u8>) -> Option<Vec<u8>> {
-    if MOST_KEPT < block.capacity() {
+    if MOST_KEPT_BYTES < block.capacity() {
         return None;
     }
     Some(block)

@@ -14,7 +14,7 @@ use Rattle.peer_units.specs.Plain.{Found}
 use Rattle.peer_units.specs.declared.unit.Found.TheVariants as found
 use Rattle.peer_units.specs.Plain.{Unit as ReplayUnit}
 use Rattle.mrt_body.specs.Units.{unit_of, damage_of, units_of, refused_of, records_of, aside_of, found_in, all_cuts, is_whole, is_aside}
-use Rattle.mrt_body.specs.ToCome.{UnitsState, TakesFound, NothingToCome, found_to_come, cuts_to_come, units_left, fresh_units}
+use Rattle.mrt_body.specs.ToCome.{UnitsState, TakesFound, NothingToCome, found_to_come, cuts_to_come, most_units_left, fresh_units}
 use Rattle.mrt_replay.specs.Replays.{HasTaken, HasTakenFiles, StopsFiles, StopsReplay}
 
 abbrev Bytes : Type 0
@@ -54,7 +54,7 @@ module _ {T : Type 0} (Took : T → List ReplayUnit → List Damage → Type 0) 
   }
 
   module _ (start now next : UnitsState) (told left later : List (Option Bytes)) (before t : T) (h : HasTaken Took start now told left before t) where
-    pub taken_more : (item : Found) (t' : T) → TakesFound now left next later (item ∷ []) → length (filter_map unit_of (item ∷ [])) + units_left next ≤ units_left now
+    pub taken_more : (item : Found) (t' : T) → TakesFound now left next later (item ∷ []) → length (filter_map unit_of (item ∷ [])) + most_units_left next ≤ most_units_left now
         → ((units : List ReplayUnit) (refused : List Damage) → Took t units refused → Took t' (units ++ filter_map unit_of (item ∷ [])) (refused ++ filter_map damage_of (item ∷ [])))
         → HasTaken Took start next told later before t'
     taken_more item t' step fewer took =
@@ -121,7 +121,7 @@ module _ (start : UnitsState) (count max_records : ℕ) (until : UnitSelection) 
     few_units_of all within =
         let items : h.items ≡ found_in until contents = sym (h.came contents known_from) ∙ all in
         let size : length (filter_map unit_of h.items) ≡ length (filter_map unit_of (found_in until contents)) = ap (λ l. length (filter_map unit_of l)) items in
-        let most : units_left start ≡ units_left (fresh_units count max_records until) = ap units_left fresh in
+        let most : most_units_left start ≡ most_units_left (fresh_units count max_records until) = ap most_units_left fresh in
         omega (arith, h.few, size, most, within)
 
     -- the units of the files are those that came

@@ -13,7 +13,7 @@ use Rattle.peer_units.specs.declared.unit.Damage.{Damage}
 use Rattle.peer_units.specs.Plain.{Found}
 use Rattle.peer_units.specs.Plain.{Unit as ReplayUnit}
 use Rattle.mrt_body.specs.Units.{unit_of, damage_of, is_whole, is_aside}
-use Rattle.mrt_body.specs.ToCome.{UnitsState, cuts_to_come, units_left}
+use Rattle.mrt_body.specs.ToCome.{UnitsState, cuts_to_come, most_units_left}
 use Rattle.lane_deal.specs.declared.plan.Plan.{Plan}
 use Rattle.lane_deal.specs.declared.step.Step.{Step}
 use Rattle.lane_deal.specs.declared.step.Step.TheVariants.{Blocked, FullBatch, End}
@@ -36,7 +36,7 @@ Known = List (Option (List ℕ))
 
 -- how much is left of units that can come
 abbrev pub left_over : ReplayerState → UnitsState → ℕ
-left_over r u = 2 * (length (option_to_list r.blocked_unit) + units_left u) + waiting_in r
+left_over r u = 2 * (length (option_to_list r.blocked_unit) + most_units_left u) + waiting_in r
 
 -- rounds so far
 pub record SoFar (dealing : ℕ → ℕ → ℕ) (plan : Plan) (first r : ReplayerState) (start now : UnitsState) (told left : Known) (n₀ m n : ℕ) : Type 0 where

@@ -8,7 +8,7 @@ use Rattle.peer_units.specs.declared.unit.Damage.{Damage}
 use Rattle.peer_units.specs.Plain.{Found}
 use Rattle.peer_units.specs.Plain.{Unit as ReplayUnit}
 use Rattle.mrt_body.specs.Units.{units_of, refused_of, records_of, aside_of, unit_of, damage_of, is_whole, is_aside}
-use Rattle.mrt_body.specs.ToCome.{UnitsState, TakesFound, HasMoreRecords, found_to_come, cuts_to_come, units_left}
+use Rattle.mrt_body.specs.ToCome.{UnitsState, TakesFound, HasMoreRecords, found_to_come, cuts_to_come, most_units_left}
 use Rattle.peer_tables.specs.Tables.{tables_of, chosen_tables}
 use Rattle.peer_units.specs.Choices.{UnitSelection}
 use Rattle.lane_deal.specs.declared.plan.Plan.{Plan}
@@ -26,7 +26,7 @@ pub record HasTaken {T : Type 0} (Took : T → List ReplayUnit → List Damage �
   pub came : TakesFound start told now left items
   pub took : (units : List ReplayUnit) (refused : List Damage) → Took before units refused →
       Took after (units ++ filter_map unit_of items) (refused ++ filter_map damage_of items)
-  pub few : length (filter_map unit_of items) + units_left now ≤ units_left start
+  pub few : length (filter_map unit_of items) + most_units_left now ≤ most_units_left start
 
 -- All that was to come was taken, and the records were counted.
 pub record HasTakenFiles {T : Type 0} (Took : T → List ReplayUnit → List Damage → Type 0) (start now : UnitsState)
@@ -40,7 +40,7 @@ pub record HasTakenFiles {T : Type 0} (Took : T → List ReplayUnit → List Dam
       start.aside + count_by (is_aside start.selection.family) (cuts_to_come start contents) ≡ now.aside
   pub took : (units : List ReplayUnit) (refused : List Damage) → Took before units refused →
       Took after (units ++ filter_map unit_of items) (refused ++ filter_map damage_of items)
-  pub few : length (filter_map unit_of items) ≤ units_left start
+  pub few : length (filter_map unit_of items) ≤ most_units_left start
 
 -- why the files can't be taken to their ends
 abbrev pub StopsFiles : UnitsState → List (Option (List ℕ)) → List ℕ → List ℕ → ReplayError → Type 0

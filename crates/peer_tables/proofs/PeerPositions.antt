@@ -12,7 +12,7 @@ use Rattle.peer_units.specs.declared.unit.PeerKey.{PeerKey}
 use Rattle.peer_units.specs.contracts.unit.PeerAddrPartialEq.TheImpl as addr_impl
 use Rattle.peer_units.specs.contracts.unit.PeerKeyPartialEq.TheImpl as key_impl
 use Rattle.peer_tables.specs.Peers.{peer_eq, addr_eq}
-use Rattle.peer_tables.specs.Numbers.{AreApart, AreListed, NumbersPeer, number_in}
+use Rattle.peer_tables.specs.Numbers.{AreApart, FindsIndexIn, NumbersPeer, number_in}
 use Rattle.peer_tables.proofs.ShareLaws.{same_peer}
 
 -- ---- equality of peers
@@ -142,7 +142,7 @@ get_front (z ∷ xs) x zero y e = e
 get_front (z ∷ xs) x (suc n) y e = get_front xs x n y e
 
 -- a peer that is not found is not listed
-pub none_listed : (find : PeerKey → Option ℕ) (keys : List PeerKey) (q : PeerKey) → AreListed find keys → find q ≡ None → list_any (peer_eq q) keys ≡ false
+pub none_listed : (find : PeerKey → Option ℕ) (keys : List PeerKey) (q : PeerKey) → FindsIndexIn find keys → find q ≡ None → list_any (peer_eq q) keys ≡ false
 none_listed find keys q listed e =
     elim (list_any (peer_eq q) keys) as (λ b. list_any (peer_eq q) keys ≡ b → b ≡ false) [
       | true ↦ λ any. (let clash : None ≡ Some (number_in keys q) = sym e ∙ (listed q (number_in keys q)).1 (listed_gets keys q any) in absurd cc)
@@ -150,12 +150,12 @@ none_listed find keys q listed e =
     ] refl
 
 -- a peer that is not listed is not found
-none_found : (find : PeerKey → Option ℕ) (keys : List PeerKey) (q : PeerKey) (o : Option ℕ) → AreListed find keys → list_any (peer_eq q) keys ≡ false → find q ≡ o → find q ≡ None
+none_found : (find : PeerKey → Option ℕ) (keys : List PeerKey) (q : PeerKey) (o : Option ℕ) → FindsIndexIn find keys → list_any (peer_eq q) keys ≡ false → find q ≡ o → find q ≡ None
 none_found find keys q None listed e is = is
 none_found find keys q (Some n) listed e is = let clash : false ≡ true = sym e ∙ listed_at keys n q ((listed q n).0 is) in absurd cc
 
 -- what is looked up, with one peer more
-module _ (old new : PeerKey → Option ℕ) (keys : List PeerKey) (k : PeerKey) (listed : AreListed old keys) (absent : old k ≡ None)
+module _ (old new : PeerKey → Option ℕ) (keys : List PeerKey) (k : PeerKey) (listed : FindsIndexIn old keys) (absent : old k ≡ None)
     (updates : (q : PeerKey) → new q ≡ cond (key_eq k q) (Some (length keys)) (old q)) where
   listed_to : (p : PeerKey) (n : ℕ) → new p ≡ Some n → slice_get (keys ++ k ∷ []) n ≡ Some p
   listed_to p n e =
@@ -181,12 +181,12 @@ module _ (old new : PeerKey → Option ℕ) (keys : List PeerKey) (k : PeerKey) 
   ]
 
 -- a new peer is listed behind the others
-pub listed_new : (keys after : List PeerKey) (k : PeerKey) (n : ℕ) → n ≡ length keys → (old new : PeerKey → Option ℕ) → AreListed old keys → list_any (peer_eq k) keys ≡ false
-    → ((q : PeerKey) → new q ≡ cond (key_eq k q) (Some n) (old q)) → after ≡ keys ++ k ∷ [] → AreListed new after
+pub listed_new : (keys after : List PeerKey) (k : PeerKey) (n : ℕ) → n ≡ length keys → (old new : PeerKey → Option ℕ) → FindsIndexIn old keys → list_any (peer_eq k) keys ≡ false
+    → ((q : PeerKey) → new q ≡ cond (key_eq k q) (Some n) (old q)) → after ≡ keys ++ k ∷ [] → FindsIndexIn new after
 listed_new keys after k n is old new listed apart updates grown =
     let absent = none_found old keys k (old k) listed apart refl in
     let updated : (q : PeerKey) → new q ≡ cond (key_eq k q) (Some (length keys)) (old q) = λ q. updates q ∙ ap (λ m. cond (key_eq k q) (Some m) (old q)) is in
-    subst (AreListed new) (sym grown) (λ p m. (listed_to old new keys k listed absent updated p m, listed_from old new keys k listed absent updated p m))
+    subst (FindsIndexIn new) (sym grown) (λ p m. (listed_to old new keys k listed absent updated p m, listed_from old new keys k listed absent updated p m))
 
 -- ---- peers with numbers
 

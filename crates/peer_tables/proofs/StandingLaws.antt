@@ -14,7 +14,7 @@ use Rattle.peer_units.specs.Plain.{Unit as ReplayUnit}
 use Rattle.adj_rib.specs.Sessions.{session_of}
 use Rattle.peer_tables.specs.Peers.{peers_of, units_of_peer}
 use Rattle.peer_tables.specs.Tables.{Seat, TablesState, IsCollected, tables_of}
-use Rattle.peer_tables.specs.Standing.{IsSeatOf, AreSeatsOf, StandFor, numbers_of}
+use Rattle.peer_tables.specs.Standing.{IsSeatOf, AreSeatsOf, AreTablesOf, numbers_of}
 use Rattle.peer_tables.proofs.SeatOrder.{Rises, rises_from, one_rising, collected_only}
 
 abbrev number_of : Seat → ℕ
@@ -99,7 +99,7 @@ module _ (units : List ReplayUnit) where
       let number : y.number ≡ z.number = sym (get_or-map number_of xs m.0 z z.number below) ∙ m.2 in
       subst (Contains xs) (one_seat y z (All-contains (IsSeatOf units) xs y a.each has) s number) has
 
-  seats_are : (tables : TablesState) (refused : List Damage) → StandFor tables units refused → tables.seats ≡ seats
+  seats_are : (tables : TablesState) (refused : List Damage) → AreTablesOf tables units refused → tables.seats ≡ seats
   seats_are tables refused h = one_rising number_of tables.seats seats
       (rises_from number_of tables.seats (sorted_from_strictly_increasing (numbers_of tables.seats) h.ascending))
       (rises_numbered 0 peers)
@@ -118,22 +118,22 @@ module _ (units : List ReplayUnit) where
   }
 
 -- tables that stand for units and refusals are those of the units and refusals
-pub StandFor-only : (tables : TablesState) (units : List ReplayUnit) (refused : List Damage) → StandFor tables units refused → tables ≡ tables_of units refused
+pub AreTablesOf-only : (tables : TablesState) (units : List ReplayUnit) (refused : List Damage) → AreTablesOf tables units refused → tables ≡ tables_of units refused
 unfolding tables_of
-StandFor-only tables units refused h =
+AreTablesOf-only tables units refused h =
     let seats = seats_are units tables refused h in
     let kept = h.refused_kept in
     λ i. record { seats = seats i; refused = kept i }
 
 -- and these do stand for them
-pub StandFor-tables_of : (units : List ReplayUnit) (refused : List Damage) → StandFor (tables_of units refused) units refused
+pub AreTablesOf-tables_of : (units : List ReplayUnit) (refused : List Damage) → AreTablesOf (tables_of units refused) units refused
 unfolding tables_of
-StandFor-tables_of units refused = record { seats = all_seats units; ascending = increasing units; refused_kept = refl }
+AreTablesOf-tables_of units refused = record { seats = all_seats units; ascending = increasing units; refused_kept = refl }
 
 -- what is collected of the seats of all peers
-pub StandFor-collected : (seats : List Seat) (refused : List Damage) (tables : TablesState) (units : List ReplayUnit) → IsCollected seats refused tables → AreSeatsOf units seats
-    → StandFor tables units refused
-StandFor-collected seats refused tables units collected a = record {
+pub AreTablesOf-collected : (seats : List Seat) (refused : List Damage) (tables : TablesState) (units : List ReplayUnit) → IsCollected seats refused tables → AreSeatsOf units seats
+    → AreTablesOf tables units refused
+AreTablesOf-collected seats refused tables units collected a = record {
   seats = record {
     each = All-permutation (IsSeatOf units) seats tables.seats collected.same a.each;
     every_peer = λ number below. Contains-permutation (numbers_of seats) (numbers_of tables.seats) number (IsPermutation-map number_of seats tables.seats collected.same) (a.every_peer number below);

@@ -18,5 +18,5 @@ abbrev pub AreApart : List PeerKey → Type 0
 AreApart keys = (number : ℕ) (key : PeerKey) → slice_get keys number ≡ Some key → number_in keys key ≡ number
 
 -- a peer's number is found exactly where the peer stands
-abbrev pub AreListed : (PeerKey → Option ℕ) → List PeerKey → Type 0
-AreListed find keys = (peer : PeerKey) (number : ℕ) → (find peer ≡ Some number) ↔ (slice_get keys number ≡ Some peer)
+abbrev pub FindsIndexIn : (PeerKey → Option ℕ) → List PeerKey → Type 0
+FindsIndexIn find keys = (peer : PeerKey) (number : ℕ) → (find peer ≡ Some number) ↔ (slice_get keys number ≡ Some peer)

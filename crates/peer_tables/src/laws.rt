@@ -7,7 +7,7 @@ ghost use Rattle.peer_units.specs.Plain.{Unit as ReplayUnit};
 ghost use Rattle.peer_tables.specs.declared.tables.Gathered.{Gathered as LanesIn};
 ghost use Rattle.peer_tables.specs.Tables.{Seat, TablesState, IsCollected, tables_of};
 ghost use Rattle.peer_tables.specs.Gathers.{gathered_seats};
-ghost use Rattle.peer_tables.specs.Standing.{AreSeatsOf, StandFor};
+ghost use Rattle.peer_tables.specs.Standing.{AreSeatsOf, AreTablesOf};
 ghost use Rattle.peer_units.specs.declared.unit.PeerKey.{PeerKey as AnyPeer};
 ghost use Rattle.peer_tables.specs.Histories.{history_of, history_of_own, history_where};
 ghost use Rattle.peer_tables.specs.Peers.{peer_eq, units_of_peer, peers_of};
@@ -20,16 +20,16 @@ use bgp_prefix::PrefixMap;
 /// Units and refusals have exactly one value of the tables that stand for them.
 pub fn tables_are_of_units()
     ensures only { (tables : TablesState) (units : List ReplayUnit) (refused : List ListedFault) →
-        StandFor tables units refused → tables ≡ tables_of units refused }
+        AreTablesOf tables units refused → tables ≡ tables_of units refused }
     ensures stand { (units : List ReplayUnit) (refused : List ListedFault) →
-        StandFor (tables_of units refused) units refused }
+        AreTablesOf (tables_of units refused) units refused }
 {}
 
 /// What `collect` returns for the sessions of all peers stands for their units, provided that the caller passes,
 /// under each peer's number, one session that took that peer's units.
 pub fn collected_stand_for_units()
     ensures { (seats : List Seat) (refused : List ListedFault) (tables : TablesState) (units : List ReplayUnit) →
-        IsCollected seats refused tables → AreSeatsOf units seats → StandFor tables units refused }
+        IsCollected seats refused tables → AreSeatsOf units seats → AreTablesOf tables units refused }
 {}
 
 /// What `collect` returns doesn't depend on how the sessions were spread over the lanes, nor on their order

@@ -34,14 +34,14 @@ impl Model for Peers {
     ghost use Rattle.std.specs.HashMap as hash;
     ghost use Rattle.peer_units.specs.contracts.unit.PeerKeyPartialEq.TheImpl as key_impl;
     ghost use Rattle.peer_units.specs.declared.unit.PeerKey.{PeerKey as Peer};
-    ghost use Rattle.peer_tables.specs.Numbers.{AreApart, AreListed};
+    ghost use Rattle.peer_tables.specs.Numbers.{AreApart, FindsIndexIn};
 
     ghost Value = { List Peer };
 
     ghost view = { λ p. p.keys.items };
 
     ghost invariant = { λ p. AreApart p.keys.items ×
-        AreListed (hash.get key_impl.eq-value.it p.numbers) p.keys.items };
+        FindsIndexIn (hash.get key_impl.eq-value.it p.numbers) p.keys.items };
 }
 
 /// The slot of a peer, below `RECENT`: its index in the index table, or a hash. Peers may share one.

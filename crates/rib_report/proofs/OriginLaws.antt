@@ -16,7 +16,7 @@ use Rattle.bgp_prefix.specs.Ordered.{in_order}
 use Rattle.peer_tables.specs.Tables.{Seat, TablesState}
 use Rattle.bgp_prefix.proofs.KeyLaws.{prefix_cmp_total, prefix_cmp_exact, prefix_tied}
 use Rattle.rib_report.specs.Plain.{OriginRow}
-use Rattle.rib_report.specs.Merges.{merged}
+use Rattle.rib_report.specs.Merges.{merged_lists}
 use Rattle.rib_report.specs.Runs.{pair_cmp, pair_eq}
 use Rattle.rib_report.specs.Reports.{seat_origins, origins_in_order, table_origins, has_several, origins_among, grouped_origins, origin_rows}
 use Rattle.rib_report.proofs.RunLaws.{set_of, set_same, set_run, below_set, map_same, all_mapped, all_from_index, all_weaker, filter_none}
@@ -214,7 +214,7 @@ single_run xs run later p rows all single groups before =
     ap (λ l. rows ++ l) (sym kept) ∙ before
 
 -- the pairs of two groups of peers, joined, are those of both
-pub merged_origins : (xs ys : List Seat) → length xs + length ys < 2 ^ 64 → merged pair_cmp (λ x _. x) (origins_in_order xs) (origins_in_order ys) ≡ origins_in_order (xs ++ ys)
+pub merged_origins : (xs ys : List Seat) → length xs + length ys < 2 ^ 64 → merged_lists pair_cmp (λ x _. x) (origins_in_order xs) (origins_in_order ys) ≡ origins_in_order (xs ++ ys)
 merged_origins xs ys few =
     joined_in_order pair_cmp_total pair_cmp_exact (flat_map seat_origins xs) (flat_map seat_origins ys)
     ∙ ap (in_order pair_cmp) (sym (flat_map-append seat_origins xs ys))

@@ -19,7 +19,7 @@ use Rattle.bgp_update.specs.declared.route.Route.{Route}
 use Rattle.peer_tables.specs.Tables.{Seat, TablesState}
 use Rattle.peer_tables.proofs.RowLaws.{map_twice}
 use Rattle.rib_report.specs.Plain.{SeenRow}
-use Rattle.rib_report.specs.Merges.{by_key, counted_both, merged}
+use Rattle.rib_report.specs.Merges.{by_key, counted_both, merged_lists}
 use Rattle.rib_report.specs.Reports.{route_origin, origin_pair, seat_origins, origins_of, origin_cmp, prefix_origin_cmp, prefix_origin_eq, prefix_origin, seat_prefix_origins, seen_of, seen_among, seen_rows, origins_seen}
 use Rattle.rib_report.proofs.OrderLaws.{any_in_order, in_order_rises, in_order_same, rising, deduped_in_order}
 use Rattle.rib_report.proofs.CountLaws.{once_counted, merged_counted}
@@ -72,7 +72,7 @@ pub seen_at_one : (s : Seat) (pairs : List (IpPrefix × Option ℕ)) → pairs �
 seen_at_one s pairs is = ap (map (λ e. (e, 1))) is ∙ once_counted prefix_origin_total prefix_origin_exact prefix_origin_eq prefix_origin_tied seat_prefix_origins s
 
 -- those of two groups of peers are those of both
-pub merged_seen : (xs ys : List Seat) → length xs + length ys < 2 ^ 64 → merged (by_key prefix_origin_cmp) counted_both (seen_among xs) (seen_among ys) ≡ seen_among (xs ++ ys)
+pub merged_seen : (xs ys : List Seat) → length xs + length ys < 2 ^ 64 → merged_lists (by_key prefix_origin_cmp) counted_both (seen_among xs) (seen_among ys) ≡ seen_among (xs ++ ys)
 merged_seen = merged_counted prefix_origin_total prefix_origin_exact prefix_origin_eq prefix_origin_tied seat_prefix_origins
 
 abbrev row_of : (IpPrefix × Option ℕ) × ℕ → SeenRow

@@ -12,11 +12,11 @@ use Rattle.adj_rib.specs.Arrived.{arrivals_of}
 use Rattle.adj_rib.specs.Churns.{churn_of, damaged_of}
 use Rattle.peer_tables.specs.Peers.{peers_of, units_of_peer}
 use Rattle.peer_tables.specs.Tables.{Seat, TablesState, tables_of}
-use Rattle.peer_tables.specs.Standing.{StandFor}
+use Rattle.peer_tables.specs.Standing.{AreTablesOf}
 use Rattle.rib_report.specs.declared.reports.churn.ChurnRow.{ChurnRow}
 use Rattle.rib_report.specs.Reports.{entry_row, is_longest, origin_pair, grouped_origins, has_several, in_place_order, rows_of_seat, matches_of_seat, seat_prefixes, is_visible_at, seat_origins, prefix_origin_cmp, seat_prefix_origins, is_seen_at, peer_churn, peer_row}
 use Rattle.rib_report.specs.UnitReports.{table_at, peer_at, prefixes_at, is_visible, prefix_origins_at, is_seen, HasReportsOf, HaveSameTexts}
-use Rattle.peer_tables.proofs.StandingLaws.{peer_seat, seats_from, StandFor-only}
+use Rattle.peer_tables.proofs.StandingLaws.{peer_seat, seats_from, AreTablesOf-only}
 
 module _ (units : List ReplayUnit) where
   -- what each peer's seat gives, peer after peer, whatever the numbers
@@ -74,11 +74,11 @@ HasReportsOf-tables_of units refused =
       faults = ap (λ listed. in_place_order (refused ++ listed)) (pieces_of_peers units (λ s. s.session.faults) (λ q. damaged_of (units_of_peer units q)) (λ n q. refl) 0 peers);
     }
 
-pub HasReportsOf-standing : (tables : TablesState) (units : List ReplayUnit) (refused : List Damage) → StandFor tables units refused → HasReportsOf units refused tables
-HasReportsOf-standing tables units refused h = subst (HasReportsOf units refused) (sym (StandFor-only tables units refused h)) (HasReportsOf-tables_of units refused)
+pub HasReportsOf-standing : (tables : TablesState) (units : List ReplayUnit) (refused : List Damage) → AreTablesOf tables units refused → HasReportsOf units refused tables
+HasReportsOf-standing tables units refused h = subst (HasReportsOf units refused) (sym (AreTablesOf-only tables units refused h)) (HasReportsOf-tables_of units refused)
 
 same_texts : (one : TablesState) → HaveSameTexts one one
 same_texts one = record { routes = λ forms. refl; matches = λ forms addr. refl; visibility = λ forms. refl; origins = λ forms. refl; seen = λ forms. refl; churn = λ forms. refl; peers = λ forms. refl; faults = refl }
 
-pub HaveSameTexts-standing : (one other : TablesState) (units : List ReplayUnit) (refused : List Damage) → StandFor one units refused → StandFor other units refused → HaveSameTexts one other
-HaveSameTexts-standing one other units refused a b = subst (HaveSameTexts one) (StandFor-only one units refused a ∙ sym (StandFor-only other units refused b)) (same_texts one)
+pub HaveSameTexts-standing : (one other : TablesState) (units : List ReplayUnit) (refused : List Damage) → AreTablesOf one units refused → AreTablesOf other units refused → HaveSameTexts one other
+HaveSameTexts-standing one other units refused a b = subst (HaveSameTexts one) (AreTablesOf-only one units refused a ∙ sym (AreTablesOf-only other units refused b)) (same_texts one)

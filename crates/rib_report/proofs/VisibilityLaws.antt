@@ -16,7 +16,7 @@ use Rattle.bgp_prefix.proofs.KeyLaws.{prefix_cmp_total, prefix_cmp_exact, prefix
 use Rattle.bgp_update.specs.declared.route.Route.{Route}
 use Rattle.peer_tables.specs.Tables.{Seat, TablesState}
 use Rattle.peer_tables.proofs.RowLaws.{map_twice}
-use Rattle.rib_report.specs.Merges.{by_key, counted_both, merged}
+use Rattle.rib_report.specs.Merges.{by_key, counted_both, merged_lists}
 use Rattle.rib_report.specs.Reports.{HasOrder, seat_prefixes, visibility_of, visible_among, visibility_rows}
 use Rattle.rib_report.specs.Runs.{new_after, without_repeats}
 use Rattle.rib_report.proofs.MergeLaws.{both_of, first_of, second_of, below_both, is_less}
@@ -101,7 +101,7 @@ visible_at_one s ordered =
     (λ q. find_once q (without_repeats ps) ∙ ap (λ b. cond b (Some 1) None) (any_without_repeats (eq_by_cmp prefix_cmp q) ps))
 
 -- the prefixes of two groups of peers are those of both
-pub merged_visible : (xs ys : List Seat) → length xs + length ys < 2 ^ 64 → merged (by_key prefix_cmp) counted_both (visible_among xs) (visible_among ys) ≡ visible_among (xs ++ ys)
+pub merged_visible : (xs ys : List Seat) → length xs + length ys < 2 ^ 64 → merged_lists (by_key prefix_cmp) counted_both (visible_among xs) (visible_among ys) ≡ visible_among (xs ++ ys)
 merged_visible = merged_counted prefix_cmp_total prefix_cmp_exact prefix_eq prefix_tied seat_prefixes
 
 -- the counted prefixes of all peers are the rows of the report

@@ -10,7 +10,7 @@ ghost use Rattle.peer_units.specs.Plain.{Unit as ReplayUnit};
 ghost use Rattle.adj_rib.specs.Steps.{is_up};
 ghost use Rattle.peer_tables.specs.Peers.{units_of_peer};
 ghost use Rattle.peer_tables.specs.Tables.{TablesState, all_faults};
-ghost use Rattle.peer_tables.specs.Standing.{StandFor};
+ghost use Rattle.peer_tables.specs.Standing.{AreTablesOf};
 ghost use Rattle.rib_report.specs.UnitReports.{HasReportsOf, HaveSameTexts, peer_at};
 ghost use Rattle.std.specs.FinMap.{find, is_sorted};
 ghost use Rattle.std.specs.List.{count_by, filter};
@@ -24,9 +24,9 @@ ghost use Rattle.rib_report.specs.Reports.{place_cmp, visibility_of, visibility_
 /// units and refusals have the same text in every report.
 pub fn reports_are_of_units()
     ensures rows { (tables : TablesState) (units : List ReplayUnit) (refused : List ListedFault) →
-        StandFor tables units refused → HasReportsOf units refused tables }
+        AreTablesOf tables units refused → HasReportsOf units refused tables }
     ensures texts { (one other : TablesState) (units : List ReplayUnit) (refused : List ListedFault) →
-        StandFor one units refused → StandFor other units refused → HaveSameTexts one other }
+        AreTablesOf one units refused → AreTablesOf other units refused → HaveSameTexts one other }
 {}
 
 /// Where state changes are taken as they are recorded, a peer is shown as up exactly if it is up.

@@ -7,7 +7,7 @@ use Rattle.bgp_update.proofs.values.keep_values.Given as goal
 abbrev pub invariant-loop-rest : goal.invariant-loop-rest
 invariant-loop-rest g l = record {
   whole : length l.first.values ≡ value_count;
-  reads : ReadsOn g.F.Unicast.family l.carrier l.width l.first l.rest (attributes_in g.F.Unicast.family l.carrier l.width l.bytes);
+  reads : ReadsOn g.F.Unicast.family l.context l.width l.first l.rest (attributes_in g.F.Unicast.family l.context l.width l.bytes);
 }
 
 abbrev pub decreases-loop-rest : goal.decreases-loop-rest

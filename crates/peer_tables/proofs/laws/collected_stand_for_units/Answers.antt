@@ -1,5 +1,5 @@
-use Rattle.peer_tables.proofs.StandingLaws.{StandFor-collected}
+use Rattle.peer_tables.proofs.StandingLaws.{AreTablesOf-collected}
 use Rattle.peer_tables.proofs.laws.collected_stand_for_units.Goals as goal
 
 pub returns : goal.returns
-returns c = StandFor-collected
+returns c = AreTablesOf-collected

@@ -1,5 +1,5 @@
-use Rattle.peer_tables.proofs.StandingLaws.{StandFor-only, StandFor-tables_of}
+use Rattle.peer_tables.proofs.StandingLaws.{AreTablesOf-only, AreTablesOf-tables_of}
 use Rattle.peer_tables.proofs.laws.tables_are_of_units.Goals as goal
 
 pub returns : goal.returns
-returns c = record { only = StandFor-only; stand = StandFor-tables_of }
+returns c = record { only = AreTablesOf-only; stand = AreTablesOf-tables_of }

@@ -20,7 +20,7 @@ use std::mem;
 use std::thread::{Threads, join_mut};
 
 /// The maximum number of workers for which there are blocks: more threads would wait for the one that writes.
-const MOST_WORKERS: usize = 8;
+const MOST_FORMATTERS: usize = 8;
 
 /// How many blocks there are for each worker.
 const PIECES: usize = 16;
@@ -58,7 +58,7 @@ impl LineBlocks {
     /// Returns the blocks with which the lines of tables of at most so many entries are made for so many workers; none
     /// if it doesn't pay.
     pub(crate) fn new(alloc: Global, workers: usize, most: usize) -> Result<LineBlocks, Memory> {
-        let wanted = workers.min(MOST_WORKERS) * PIECES;
+        let wanted = workers.min(MOST_FORMATTERS) * PIECES;
         let count = if workers < 2 || most < LARGE {
             0
         } else {
