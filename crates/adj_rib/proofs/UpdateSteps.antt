@@ -16,7 +16,3 @@ same_others a b c d keys first second = λ i. map withdraw (filter (λ key. not 
 -- each key of MP_REACH_NLRI has the route by its next hop
 pub reached_by : (plain : Route) (o : Option HashedRoute) (hashed : HashedRoute) (keys : List RouteKey) → o ≡ Some hashed → IsByHop plain hashed.route → map (λ key. announce key hashed.route) keys ≡ map (λ key. announce key (by_hop plain (hop_of o))) keys
 reached_by plain o hashed keys e by = ap (λ (r : Route). map (λ key. announce key r) keys) (by ∙ ap (λ (x : Option HashedRoute). by_hop plain (hop_of x)) (sym e))
-
--- without that route there is none
-pub none_reached : (keys : List RouteKey) (f : RouteKey → Step) → keys ≡ [] → map f keys ≡ []
-none_reached keys f e = ap (map f) e

@@ -17,11 +17,14 @@ use Rattle.bgp_update.specs.declared.attribute_context.AttributeContext.TheVaria
 use Rattle.bgp_update.specs.AttributeTypes.{type_code, type_of}
 use Rattle.bgp_update.specs.Keys.{identifier_len, octets_at, written_key_at, keys_in}
 use Rattle.bgp_update.specs.Multiprotocol.{reach_in, unreach_in, keys_beside, reached_in, unreached_in, reached_keys, unreached_keys}
-use Rattle.bgp_update.specs.Attributes.{WrittenAttribute, has_type, value_fault, fault_of_type, fault_beside}
+use Rattle.bgp_update.specs.Attributes.{WrittenAttribute, has_type, value_fault, fault_of_type, fault_beside, repeat_fault}
 use Rattle.bgp_update.specs.Values.{value_index, head_fault, head_fault_of_type, head_fault_beside, keys_fault}
 use Rattle.bgp_update.proofs.Counts.{err_of_mapped}
 use Rattle.bgp_update.proofs.TypeLaws.{type_again, value_index_decides, equal_value_indices}
-use Rattle.bgp_update.proofs.FirstTaken.{beside, head_beside}
+use Rattle.bgp_update.proofs.FirstTaken.{head_beside}
+
+abbrev Values : Type 0
+Values = AttributeType → Option (List ℕ)
 
 -- ---- readings that fail in one way alone
 
@@ -37,20 +40,14 @@ guard_fails : {A : Type 0} (fault : Fault) (b : Bool) (x : A) → FailsAs {A = A
 guard_fails fault true x = refl
 guard_fails fault false x = tt
 
-is_fault : {A : Type 0} (fault other : Fault) (r : Result A Fault) → FailsAs fault r → result_err r ≡ Some other → other ≡ fault
-is_fault fault other (Ok x) h e = absurd cc
-is_fault fault other (Err found) h e =
-    let same : found ≡ other = cc in
-    sym same ∙ h
-
--- a reading behind one that doesn't fail, and behind one that does
-behind : {A B : Type 0} (fault : Fault) (r : Result A Fault) (f : A → Result B Fault) → result_err r ≡ None → ((x : A) → FailsAs fault (f x)) → FailsAs fault (r >>= f)
-behind fault (Ok x) f e more = more x
-behind fault (Err other) f e more = absurd cc
-
-stops : {A B : Type 0} (r : Result A Fault) (f : A → Result B Fault) (fault : Fault) → result_err r ≡ Some fault → result_err (r >>= f) ≡ Some fault
-stops (Ok x) f fault e = absurd cc
-stops (Err other) f fault e = e
+-- behind a reading that doesn't fail
+fails_behind : {A B : Type 0} (r : Result A Fault) (f : A → Result B Fault) (fault other : Fault) → result_err r ≡ None → ((x : A) → FailsAs fault (f x)) → result_err (r >>= f) ≡ Some other → other ≡ fault
+fails_behind (Ok x) f fault other none more = of (f x) (more x)
+  where
+    of : {B : Type 0} (r : Result B Fault) → FailsAs fault r → result_err r ≡ Some other → other ≡ fault
+    of (Ok y) h e = absurd cc
+    of (Err found) h e = let same : found ≡ other = cc in sym same ∙ h
+fails_behind (Err found) f fault other none more = absurd cc
 
 -- ---- keys
 
@@ -75,118 +72,86 @@ unfolding keys_in items_after
 keys_fail form None = tt
 keys_fail form (Some bytes) = items_fail (written_key_at form) BadPrefix (key_fails form) (length bytes) bytes
 
--- beside a head without a fault, keys alone are wrong
-reached_fails : (family : FamilyOf) (add_path : Bool) (value : List ℕ) (fault : Fault) → result_err (reach_in family value) ≡ None → result_err (reached_in family add_path value) ≡ Some fault → fault ≡ BadPrefix
-reached_fails family add_path value fault head e =
-    is_fault BadPrefix fault (reached_in family add_path value)
-    (behind BadPrefix (reach_in family value) _ head (λ reach. bind_fails BadPrefix (keys_beside (form_of family add_path) (option_map (λ r. r.1) reach)) _ (keys_fail _ _) (λ keys. tt))) e
+-- ---- an attribute's head, and its keys
 
-unreached_fails : (family : FamilyOf) (add_path : Bool) (value : List ℕ) (fault : Fault) → result_err (unreach_in family value) ≡ None → result_err (unreached_in family add_path value) ≡ Some fault → fault ≡ BadPrefix
-unreached_fails family add_path value fault head e =
-    is_fault BadPrefix fault (unreached_in family add_path value) (behind BadPrefix (unreach_in family value) _ head (λ field. keys_fail _ field)) e
+-- the fault of a value in a message, if its head has none
+abbrev value_keys : FamilyOf → Bool → AttributeType → List ℕ → Option Fault
+value_keys family add_path types.MpReachNlri value = result_err (reached_in family add_path value)
+value_keys family add_path types.MpUnreachNlri value = result_err (unreached_in family add_path value)
+value_keys family add_path t value = None
 
--- ---- heads
+abbrev first_keys : FamilyOf → AttributeContext → AttributeType → Option (List ℕ) → List ℕ → Option Fault
+first_keys family RibEntry t o value = None
+first_keys family (Message add_path) t None value = value_keys family add_path t value
+first_keys family (Message add_path) t (Some first) value = None
 
--- the fault of a head is the value's
-head_stops : (family : FamilyOf) (context : AttributeContext) (width : Width) (t : AttributeType) (value : List ℕ) (fault : Fault) → head_fault family context width t value ≡ Some fault → value_fault family context width t value ≡ Some fault
+-- the same of an attribute beside the first values of all types
+abbrev pub added_keys : FamilyOf → AttributeContext → Values → WrittenAttribute → Option Fault
+added_keys family context value_at a = option_and_then (λ t. first_keys family context t (value_at t) a.value) (type_of a.code)
+
+head_first : {A B : Type 0} (r : Result A Fault) (f : A → Result B Fault) → result_err (r >>= f) ≡ option_or (result_err r) (result_err (r >>= f))
+head_first (Ok x) f = refl
+head_first (Err fault) f = refl
+
+value_parts : (family : FamilyOf) (context : AttributeContext) (width : Width) (t : AttributeType) (value : List ℕ) → value_fault family context width t value ≡ option_or (head_fault family context width t value) (first_keys family context t None value)
 unfolding head_fault value_fault
-head_stops family RibEntry width types.MpReachNlri value fault e = e
-head_stops family (Message add_path) width types.MpReachNlri value fault e = stops (reach_in family value) _ fault e
-head_stops family RibEntry width types.MpUnreachNlri value fault e = e
-head_stops family (Message add_path) width types.MpUnreachNlri value fault e = stops (unreach_in family value) _ fault e
-head_stops family context width t value fault e = e
+value_parts family (Message add_path) width types.MpReachNlri value = head_first (reach_in family value) _
+value_parts family (Message add_path) width types.MpUnreachNlri value = head_first (unreach_in family value) _
+value_parts family (Message add_path) width t value = sym (or_none (value_fault family (Message add_path) width t value))
+value_parts family RibEntry width types.MpReachNlri value = sym (or_none (value_fault family RibEntry width types.MpReachNlri value))
+value_parts family RibEntry width t value = sym (or_none (value_fault family RibEntry width t value))
 
-pub head_beside_stops : (family : FamilyOf) (context : AttributeContext) (width : Width) (value_at : AttributeType → Option (List ℕ)) (a : WrittenAttribute) (fault : Fault)
-    → head_fault_beside family context width value_at a ≡ Some fault → fault_beside family context width value_at a ≡ Some fault
-head_beside_stops family context width value_at a fault = by_type (type_of a.code)
+pub beside_parts : (family : FamilyOf) (context : AttributeContext) (width : Width) (value_at : Values) (a : WrittenAttribute) → fault_beside family context width value_at a ≡ option_or (head_fault_beside family context width value_at a) (added_keys family context value_at a)
+beside_parts family context width value_at a = by_type (type_of a.code)
   where
-    by_value : (t : AttributeType) (o : Option (List ℕ)) → head_fault_of_type family context width t o a.value ≡ Some fault → fault_of_type family context width t o a.value ≡ Some fault
-    by_value t None e = head_stops family context width t a.value fault e
-    by_value t (Some first) e = e
+    again : (c : AttributeContext) (t : AttributeType) (first : List ℕ) → repeat_fault c t ≡ option_or (repeat_fault c t) (first_keys family c t (Some first) a.value)
+    again RibEntry t first = sym (or_none (repeat_fault RibEntry t))
+    again (Message add_path) t first = sym (or_none (repeat_fault (Message add_path) t))
 
-    by_type : (o : Option AttributeType) → option_and_then (λ t. head_fault_of_type family context width t (value_at t) a.value) o ≡ Some fault → option_and_then (λ t. fault_of_type family context width t (value_at t) a.value) o ≡ Some fault
-    by_type None e = e
-    by_type (Some t) e = by_value t (value_at t) e
+    by_value : (t : AttributeType) (o : Option (List ℕ)) → fault_of_type family context width t o a.value ≡ option_or (head_fault_of_type family context width t o a.value) (first_keys family context t o a.value)
+    by_value t None = value_parts family context width t a.value
+    by_value t (Some first) = again context t first
 
--- a RIB entry has no keys
-rib_head : (family : FamilyOf) (width : Width) (t : AttributeType) (value : List ℕ) → value_fault family RibEntry width t value ≡ head_fault family RibEntry width t value
-unfolding head_fault value_fault
-rib_head family width types.MpReachNlri value = refl
-rib_head family width types.MpUnreachNlri value = refl
-rib_head family width t value = refl
-
-rib_beside : (family : FamilyOf) (width : Width) (value_at : AttributeType → Option (List ℕ)) (a : WrittenAttribute) → fault_beside family RibEntry width value_at a ≡ head_fault_beside family RibEntry width value_at a
-rib_beside family width value_at a = by_type (type_of a.code)
-  where
-    by_value : (t : AttributeType) (o : Option (List ℕ)) → fault_of_type family RibEntry width t o a.value ≡ head_fault_of_type family RibEntry width t o a.value
-    by_value t None = rib_head family width t a.value
-    by_value t (Some first) = refl
-
-    by_type : (o : Option AttributeType) → option_and_then (λ t. fault_of_type family RibEntry width t (value_at t) a.value) o ≡ option_and_then (λ t. head_fault_of_type family RibEntry width t (value_at t) a.value) o
+    by_type : (o : Option AttributeType) → option_and_then (λ t. fault_of_type family context width t (value_at t) a.value) o ≡ option_or (option_and_then (λ t. head_fault_of_type family context width t (value_at t) a.value) o) (option_and_then (λ t. first_keys family context t (value_at t) a.value) o)
     by_type None = refl
     by_type (Some t) = by_value t (value_at t)
 
 -- ---- one more attribute
 
--- Beside keys without a fault, an attribute's fault is the one of all keys then, and a broken prefix. A fault of keys,
--- which is a broken prefix, stays.
-pub record KeysStep (old found new : Option Fault) : Type 0 where
-  pub finds : old ≡ None → found ≡ new
+-- Beside keys without a fault, that of an attribute's keys is the one of all keys then, and a broken prefix. A fault of
+-- keys, which is a broken prefix, stays.
+pub record KeysStep (old added new : Option Fault) : Type 0 where
+  pub finds : old ≡ None → added ≡ new
   pub prefix : old ≡ None → (fault : Fault) → new ≡ Some fault → fault ≡ BadPrefix
   pub stays : (fault : Fault) → old ≡ Some fault → fault ≡ BadPrefix → new ≡ Some fault
 
 -- it has no keys
 no_keys : (old : Option Fault) → KeysStep old None old
-no_keys old = record {
-  finds = λ e. sym e;
-  prefix = λ none fault e. absurd cc;
-  stays = λ fault e bad. e;
-}
+no_keys old = record { finds = λ e. sym e; prefix = λ none fault e. absurd cc; stays = λ fault e is. e }
 
 -- it is MP_UNREACH_NLRI
-unreached_steps : (found reached : Option Fault) → ((fault : Fault) → found ≡ Some fault → fault ≡ BadPrefix) → KeysStep reached found (option_or found reached)
-unreached_steps None reached bad = record {
-  finds = λ e. sym e;
-  prefix = λ none fault e. absurd cc;
-  stays = λ fault e is. e;
-}
-unreached_steps (Some found) None bad = record {
-  finds = λ e. refl;
-  prefix = λ none fault e. bad fault e;
-  stays = λ fault e is. absurd cc;
-}
-unreached_steps (Some found) (Some other) bad = record {
-  finds = λ e. absurd cc;
-  prefix = λ none. absurd cc;
-  stays = λ fault e is. ap (λ (f : Fault). Some f) (bad found refl ∙ sym is);
-}
+unreached_steps : (added reached : Option Fault) → ((fault : Fault) → added ≡ Some fault → fault ≡ BadPrefix) → KeysStep reached added (option_or added reached)
+unreached_steps None reached bad = no_keys reached
+unreached_steps (Some added) None bad = record { finds = λ e. refl; prefix = λ none fault e. bad fault e; stays = λ fault e is. absurd cc }
+unreached_steps (Some added) (Some other) bad = record { finds = λ e. absurd cc; prefix = λ none. absurd cc; stays = λ fault e is. ap (λ (f : Fault). Some f) (bad added refl ∙ sym is) }
 
 -- it is MP_REACH_NLRI
-reached_steps : (unreached found : Option Fault) → ((fault : Fault) → found ≡ Some fault → fault ≡ BadPrefix) → KeysStep unreached found (option_or unreached found)
-reached_steps None found bad = record {
-  finds = λ e. refl;
-  prefix = λ none fault e. bad fault e;
-  stays = λ fault e is. absurd cc;
-}
-reached_steps (Some other) found bad = record {
-  finds = λ e. absurd cc;
-  prefix = λ none. absurd cc;
-  stays = λ fault e is. e;
-}
+reached_steps : (unreached added : Option Fault) → ((fault : Fault) → added ≡ Some fault → fault ≡ BadPrefix) → KeysStep unreached added (option_or unreached added)
+reached_steps None added bad = record { finds = λ e. refl; prefix = λ none fault e. bad fault e; stays = λ fault e is. absurd cc }
+reached_steps (Some other) added bad = record { finds = λ e. absurd cc; prefix = λ none. absurd cc; stays = λ fault e is. e }
 
-moved : (old old' found found' new new' : Option Fault) → old ≡ old' → found ≡ found' → new ≡ new' → KeysStep old' found' new' → KeysStep old found new
-moved old old' found found' new new' o f n h =
-    subst (λ x. KeysStep x found new) (sym o) (subst (λ x. KeysStep old' x new) (sym f) (subst (λ x. KeysStep old' found' x) (sym n) h))
+moved : (old old' added added' new new' : Option Fault) → old ≡ old' → added ≡ added' → new ≡ new' → KeysStep old' added' new' → KeysStep old added new
+moved old old' added added' new new' o f n h = subst (λ x. KeysStep x added new) (sym o) (subst (λ x. KeysStep old' x new) (sym f) (subst (λ x. KeysStep old' added' x) (sym n) h))
 
 -- the values that are kept behind an attribute
-abbrev pub later_values : (AttributeType → Option (List ℕ)) → WrittenAttribute → AttributeType → Option (List ℕ)
+abbrev pub later_values : Values → WrittenAttribute → Values
 later_values value_at a t = option_or (value_at t) (cond (has_type t a) (Some a.value) None)
 
-module _ (family : FamilyOf) (add_path : Bool) (width : Width) (value_at : AttributeType → Option (List ℕ)) (a : WrittenAttribute) where
+module _ (family : FamilyOf) (add_path : Bool) (width : Width) (value_at : Values) (a : WrittenAttribute) (fine : head_fault_beside family (Message add_path) width value_at a ≡ None) where
   abbrev message : AttributeContext
   message = Message add_path
 
-  abbrev later : AttributeType → Option (List ℕ)
+  abbrev later : Values
   later = later_values value_at a
 
   abbrev unreached : Option (List ℕ) → Option Fault
@@ -195,21 +160,15 @@ module _ (family : FamilyOf) (add_path : Bool) (width : Width) (value_at : Attri
   abbrev reached : Option (List ℕ) → Option Fault
   reached o = result_err (reached_keys family add_path o)
 
-  unreached_none : (o : Option (List ℕ)) → o ≡ None → unreached o ≡ None
+  unreached_is : (o : Option (List ℕ)) → unreached o ≡ option_and_then (λ value. result_err (unreached_in family add_path value)) o
   unfolding unreached_keys
-  unreached_none o e = ap unreached e
+  unreached_is None = refl
+  unreached_is (Some value) = err_of_mapped (unreached_in family add_path value) _
 
-  reached_none : (o : Option (List ℕ)) → o ≡ None → reached o ≡ None
+  reached_is : (o : Option (List ℕ)) → reached o ≡ option_and_then (λ value. result_err (reached_in family add_path value)) o
   unfolding reached_keys
-  reached_none o e = ap reached e
-
-  unreached_some : (value : List ℕ) → unreached (Some value) ≡ result_err (unreached_in family add_path value)
-  unfolding unreached_keys
-  unreached_some value = err_of_mapped (unreached_in family add_path value) _
-
-  reached_some : (value : List ℕ) → reached (Some value) ≡ result_err (reached_in family add_path value)
-  unfolding reached_keys
-  reached_some value = err_of_mapped (reached_in family add_path value) _
+  reached_is None = refl
+  reached_is (Some value) = err_of_mapped (reached_in family add_path value) _
 
   -- an attribute of another type, or that isn't looked at, leaves a value as it is
   other_value : (u : AttributeType) → has_type u a ≡ false → later u ≡ value_at u
@@ -239,59 +198,50 @@ module _ (family : FamilyOf) (add_path : Bool) (width : Width) (value_at : Attri
           ap (λ (o : Option (List ℕ)). option_or o (cond (has_type u a) (Some a.value) None)) own ∙ sym own
 
   abbrev Goal : Type 0
-  Goal = KeysStep (keys_fault family message value_at) (fault_beside family message width value_at a) (keys_fault family message later)
+  Goal = KeysStep (keys_fault family message value_at) (added_keys family message value_at a) (keys_fault family message later)
+
+  -- the keys of an attribute of a type
+  adds : (t : AttributeType) (o : Option (List ℕ)) → type_of a.code ≡ Some t → value_at t ≡ o → added_keys family message value_at a ≡ first_keys family message t o a.value
+  adds t o e h = rw e (ap (λ (x : Option (List ℕ)). first_keys family message t x a.value) h)
 
   -- neither value changes
-  same : fault_beside family message width value_at a ≡ None → later types.MpUnreachNlri ≡ value_at types.MpUnreachNlri → later types.MpReachNlri ≡ value_at types.MpReachNlri → Goal
+  same : added_keys family message value_at a ≡ None → later types.MpUnreachNlri ≡ value_at types.MpUnreachNlri → later types.MpReachNlri ≡ value_at types.MpReachNlri → Goal
   same f u r = moved _ _ _ _ _ _ refl f (λ i. option_or (unreached (u i)) (reached (r i))) (no_keys (keys_fault family message value_at))
 
-  unreached_first : type_of a.code ≡ Some types.MpUnreachNlri → value_at types.MpUnreachNlri ≡ None → head_fault_beside family message width value_at a ≡ None → Goal
-  unfolding head_fault value_fault
-  unreached_first e none fine =
+  first_of : (t : AttributeType) → type_of a.code ≡ Some t → value_at t ≡ None → Goal
+  unfolding head_fault
+  first_of types.MpUnreachNlri e none =
       let head : result_err (unreach_in family a.value) ≡ None = sym (head_beside family message width value_at a types.MpUnreachNlri None e none) ∙ fine in
       let r = other_value types.MpReachNlri (value_index_decides a.code types.MpUnreachNlri types.MpReachNlri e) in
       let u = first_value types.MpUnreachNlri none (value_index_decides a.code types.MpUnreachNlri types.MpUnreachNlri e) in
-      moved _ _ _ _ _ _
-      (ap (λ (o : Option Fault). option_or o (reached (value_at types.MpReachNlri))) (unreached_none (value_at types.MpUnreachNlri) none))
-      (beside family message width value_at a types.MpUnreachNlri None e none)
-      (λ i. option_or ((ap unreached u ∙ unreached_some a.value) i) (reached (r i)))
-      (unreached_steps (result_err (unreached_in family add_path a.value)) (reached (value_at types.MpReachNlri)) (λ fault. unreached_fails family add_path a.value fault head))
-
-  reached_first : type_of a.code ≡ Some types.MpReachNlri → value_at types.MpReachNlri ≡ None → head_fault_beside family message width value_at a ≡ None → Goal
-  unfolding head_fault value_fault
-  reached_first e none fine =
+      moved _ _ _ _ _ _ (λ i. option_or ((ap unreached none ∙ unreached_is None) i) (reached (value_at types.MpReachNlri))) (adds types.MpUnreachNlri None e none)
+      (λ i. option_or ((ap unreached u ∙ unreached_is (Some a.value)) i) (reached (r i)))
+      (unreached_steps (result_err (unreached_in family add_path a.value)) (reached (value_at types.MpReachNlri)) (λ fault. fails_behind (unreach_in family a.value) _ BadPrefix fault head (λ field. keys_fail _ field)))
+  first_of types.MpReachNlri e none =
       let head : result_err (reach_in family a.value) ≡ None = sym (head_beside family message width value_at a types.MpReachNlri None e none) ∙ fine in
       let u = other_value types.MpUnreachNlri (value_index_decides a.code types.MpReachNlri types.MpUnreachNlri e) in
       let r = first_value types.MpReachNlri none (value_index_decides a.code types.MpReachNlri types.MpReachNlri e) in
-      moved _ _ _ _ _ _
-      (ap (λ (o : Option Fault). option_or (unreached (value_at types.MpUnreachNlri)) o) (reached_none (value_at types.MpReachNlri) none) ∙ or_none (unreached (value_at types.MpUnreachNlri)))
-      (beside family message width value_at a types.MpReachNlri None e none)
-      (λ i. option_or (unreached (u i)) ((ap reached r ∙ reached_some a.value) i))
-      (reached_steps (unreached (value_at types.MpUnreachNlri)) (result_err (reached_in family add_path a.value)) (λ fault. reached_fails family add_path a.value fault head))
+      let keys : (reach : _) → FailsAs BadPrefix _ = λ reach. bind_fails BadPrefix (keys_beside (form_of family add_path) (option_map (λ r. r.1) reach)) _ (keys_fail _ _) (λ keys. tt) in
+      moved _ _ _ _ _ _ ((λ i. option_or (unreached (value_at types.MpUnreachNlri)) ((ap reached none ∙ reached_is None) i)) ∙ or_none (unreached (value_at types.MpUnreachNlri))) (adds types.MpReachNlri None e none)
+      (λ i. option_or (unreached (u i)) ((ap reached r ∙ reached_is (Some a.value)) i))
+      (reached_steps (unreached (value_at types.MpUnreachNlri)) (result_err (reached_in family add_path a.value)) (λ fault. fails_behind (reach_in family a.value) _ BadPrefix fault head keys))
+  first_of t e none =
+      same (adds t None e none) (other_value types.MpUnreachNlri (value_index_decides a.code t types.MpUnreachNlri e)) (other_value types.MpReachNlri (value_index_decides a.code t types.MpReachNlri e))
 
-  first_of : (t : AttributeType) → type_of a.code ≡ Some t → value_at t ≡ None → head_fault_beside family message width value_at a ≡ None → Goal
-  unfolding head_fault value_fault
-  first_of types.MpUnreachNlri e none fine = unreached_first e none fine
-  first_of types.MpReachNlri e none fine = reached_first e none fine
-  first_of t e none fine =
-      same (beside family message width value_at a t None e none ∙ sym (head_beside family message width value_at a t None e none) ∙ fine)
-      (other_value types.MpUnreachNlri (value_index_decides a.code t types.MpUnreachNlri e)) (other_value types.MpReachNlri (value_index_decides a.code t types.MpReachNlri e))
-
-  message_steps : head_fault_beside family message width value_at a ≡ None → Goal
-  message_steps fine = by_type (type_of a.code) refl
+  by_type : (o : Option AttributeType) → type_of a.code ≡ o → Goal
+  by_type None e = same (rw e refl) (other_value types.MpUnreachNlri (no_type types.MpUnreachNlri e)) (other_value types.MpReachNlri (no_type types.MpReachNlri e))
+  by_type (Some t) e = by_value (value_at t) refl
     where
-      by_value : (t : AttributeType) → type_of a.code ≡ Some t → (o : Option (List ℕ)) → value_at t ≡ o → Goal
-      by_value t e None h = first_of t e h fine
-      by_value t e (Some first) h =
-          same (beside family message width value_at a t (Some first) e h ∙ sym (head_beside family message width value_at a t (Some first) e h) ∙ fine)
-          (again_value t types.MpUnreachNlri first e h) (again_value t types.MpReachNlri first e h)
-
-      by_type : (o : Option AttributeType) → type_of a.code ≡ o → Goal
-      by_type None e = same (rw e refl) (other_value types.MpUnreachNlri (no_type types.MpUnreachNlri e)) (other_value types.MpReachNlri (no_type types.MpReachNlri e))
-      by_type (Some t) e = by_value t e (value_at t) refl
+      by_value : (o : Option (List ℕ)) → value_at t ≡ o → Goal
+      by_value None h = first_of t e h
+      by_value (Some first) h = same (adds t (Some first) e h) (again_value t types.MpUnreachNlri first e h) (again_value t types.MpReachNlri first e h)
 
 -- the fault of keys behind an attribute whose head is fine
-pub keys_step : (family : FamilyOf) (context : AttributeContext) (width : Width) (value_at : AttributeType → Option (List ℕ)) (a : WrittenAttribute) → head_fault_beside family context width value_at a ≡ None
-    → KeysStep (keys_fault family context value_at) (fault_beside family context width value_at a) (keys_fault family context (later_values value_at a))
-keys_step family RibEntry width value_at a fine = moved _ _ _ _ _ _ refl (rib_beside family width value_at a ∙ fine) refl (no_keys None)
-keys_step family (Message add_path) width value_at a fine = message_steps family add_path width value_at a fine
+pub keys_step : (family : FamilyOf) (context : AttributeContext) (width : Width) (value_at : Values) (a : WrittenAttribute) → head_fault_beside family context width value_at a ≡ None
+    → KeysStep (keys_fault family context value_at) (added_keys family context value_at a) (keys_fault family context (later_values value_at a))
+keys_step family RibEntry width value_at a fine = moved _ _ _ _ _ _ refl (none_of (type_of a.code) None refl) refl (no_keys None)
+  where
+    none_of : (o : Option AttributeType) (n : Option Fault) → n ≡ None → option_and_then (λ t. n) o ≡ None
+    none_of None n e = refl
+    none_of (Some t) n e = e
+keys_step family (Message add_path) width value_at a fine = by_type family add_path width value_at a fine (type_of a.code) refl

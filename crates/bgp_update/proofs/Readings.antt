@@ -1,5 +1,5 @@
 -- Readings one after the other, fields that repeat, and calls that return what a reading gives.
-use Rattle.std.proofs.Common.{◌≡◌, ℕ, ◌<◌, List, [], ◌∷◌, ◌++◌, length, Result, Ok, Err, refl, sym, ap, ◌∙◌, append-nil, append_assoc}
+use Rattle.std.proofs.Common.{◌≡◌, ℕ, ◌<◌, List, [], ◌∷◌, ◌++◌, length, Result, Ok, Err, refl, sym, ◌∙◌, append-nil, append_assoc}
 use Rattle.std.specs.Prelude.{IfOk}
 use Rattle.std.specs.List.{fold, flat_map, AllByRecursion}
 use Rattle.mrt_frame.specs.declared.fault.Fault.{Fault}
@@ -7,8 +7,7 @@ use Rattle.mrt_frame.specs.Fields.{Reading, ◌>>=◌, items_in}
 use Rattle.mrt_frame.proofs.Items.{AreGood, items_after-is, items_after-spelled}
 use Rattle.mrt_frame.proofs.FieldLaws.{IsBytes}
 use Rattle.bgp_update.specs.declared.attr_error.AttrError.{AttrError}
-use Rattle.bgp_update.specs.declared.attr_error.AttrError.TheVariants as errors
-use Rattle.bgp_update.specs.Results.{Fails, Gives}
+use Rattle.bgp_update.specs.Results.{Gives}
 
 pub bind_assoc : {A B C : Type 0} (r : Result A Fault) (f : A → Result B Fault) (g : B → Result C Fault) → ((r >>= f) >>= g) ≡ (r >>= λ x. f x >>= g)
 bind_assoc (Ok x) f g = refl

@@ -42,19 +42,3 @@ module _ (end : ℕ) (text rest : List ℕ) (number : ℕ) (names : List (List �
     named = so_far.named ∙ ap (λ (l : List (List ℕ)). names ++ l) (ap (names_of end) first ∙ names_more end name (pieces_of end left) (some_piece end left) ∙ ap (λ b. cond b (names_of end (pieces_of end left)) (name ∷ names_of end (pieces_of end left))) is_name) ∙ sym (append_assoc names (name ∷ []) (names_of end (pieces_of end left)));
     short = omega (arith, so_far.short, shorter);
   }
-
-  pub all_passed : pieces_of end rest ≡ name ∷ [] → is_passed end true name ≡ true → names ≡ names_of end (pieces_of end text)
-  all_passed last passed = sym (so_far.named ∙ ap (λ (l : List (List ℕ)). names ++ l) (ap (names_of end) last ∙ ap (λ b. cond b [] (name ∷ [])) passed) ∙ append-nil names)
-
-  pub all_read : pieces_of end rest ≡ name ∷ [] → is_passed end true name ≡ false → names ++ name ∷ [] ≡ names_of end (pieces_of end text)
-  all_read last is_name = sym (so_far.named ∙ ap (λ (l : List (List ℕ)). names ++ l) (ap (names_of end) last ∙ ap (λ b. cond b [] (name ∷ [])) is_name))
-
-  pub no_text : (behind : List (List ℕ)) → pieces_of end rest ≡ name ∷ behind → (IsUtf8 name → ⊥) → IsNoText (pieces_of end text) number
-  no_text behind first none = record {
-    before = so_far.before;
-    name = name;
-    behind = behind;
-    whole = so_far.whole ∙ ap (λ (l : List (List ℕ)). so_far.before ++ l) first;
-    counted = so_far.counted;
-    none = none;
-  }

@@ -78,16 +78,3 @@ module _ (Spells : List ℕ → ℕ → Type 0) (width : ℕ) (text rest : List 
 
   pub read_all : (more : List PrefixChoice) → lines_of rest ≡ line ∷ [] → ((before : List (List ℕ)) → NameChoices Spells width before choices → NameChoices Spells width (before ++ line ∷ []) more) → NameChoices Spells width (lines_of text) more
   read_all more last taken = subst (λ (l : List (List ℕ)). NameChoices Spells width l more) (sym (so_far.whole ∙ ap (λ (l : List (List ℕ)). so_far.before ++ l) last)) (taken so_far.before so_far.named)
-
-  pub first_fault : (behind : List (List ℕ)) → lines_of rest ≡ line ∷ behind → is_passed (trimmed line) ≡ false → IsNoChoice Spells width (trimmed line) → IsFirstFault Spells width (lines_of text) number
-  first_fault behind first entry none = record {
-    before = so_far.before;
-    line = line;
-    behind = behind;
-    whole = so_far.whole ∙ ap (λ (l : List (List ℕ)). so_far.before ++ l) first;
-    counted = so_far.counted;
-    choices = choices;
-    named = so_far.named;
-    read = entry;
-    none = none;
-  }

@@ -78,20 +78,6 @@ TakesUnits-pending u u' k units reading gives = record {
   idle = λ failed. absurd (cc);
 }
 
--- what stops a reading later stops it
-pub stops_later : (u u' : UnitsState) (k k' : Known) (given : List Found) (before now after : List ℕ) (e : ReplayError) → TakesUnits u k u' k' given → now ≡ before → StopsReading u' k' now after e → StopsReading u k before after e
-stops_later u u' k k' given before now after (errors.Read file) p same (inl h) = let failed = sym p.state ∙ h.0 in inl (failed, h.1 ∙ ap (λ (v : UnitsState). v.file) (p.idle failed).0)
-stops_later u u' k k' given before now after (errors.Read file) p same (inr h) = inr (subst (λ l. HasFailed (slice_index l file) (slice_index after file)) same h)
-stops_later u u' k k' given before now after errors.Write p same h = h
-stops_later u u' k k' given before now after errors.Memory p same h = tt
-stops_later u u' k k' given before now after errors.Records p same h = λ contents known.
-    let x = p.found contents known in
-    let more = h x.0 x.1 in
-    let limit = p.plan.1 in
-    let records = x.2.records in
-    omega arith
-stops_later u u' k k' given before now after errors.Spent p same h = sym p.state ∙ h
-
 -- ---- what stands before a failed read
 
 -- one call of the reading whose read failed

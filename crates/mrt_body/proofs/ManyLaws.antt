@@ -68,13 +68,6 @@ module _ {A : Type 0} (read : List ℕ → Reading A) where
       let all : many read 0 bytes ≡ Ok [] = rw none refl in
       sym so_far ∙ ap (λ (n : ℕ). still step b (many read n bytes)) k ∙ ap (still step b) all
 
-  pub has_more : {B : Type 0} (step : B → A → B) (b : B) (count i : ℕ) (bytes : List ℕ) (total : Result B Fault) → count ≤ i → eqb (length bytes) 0 ≡ false
-      → still step b (many read (count - i) bytes) ≡ total → total ≡ Err TrailingBytes
-  has_more step b count i bytes total le some so_far =
-      let k : count - i ≡ 0 = omega arith in
-      let all : many read 0 bytes ≡ Err TrailingBytes = rw some refl in
-      sym so_far ∙ ap (λ (n : ℕ). still step b (many read n bytes)) k ∙ ap (still step b) all
-
   -- items that are each read and then seen by f
   pub many-map : {B : Type 0} (f : A → B) (n : ℕ) (bytes : List ℕ) → many (λ (b : List ℕ). seen f (read b)) n bytes ≡ (many read n bytes >>= λ xs. Ok (map f xs))
   many-map {B} f zero bytes = whole (eqb (length bytes) 0)

@@ -6,5 +6,4 @@ pub mod LanesTaken
 pub mod ReportLaws
 pub mod RoundsTaken
 pub mod RunLaws
-pub mod ToldLaws
 pub mod HistoryLaws

@@ -206,14 +206,6 @@ module _ (names : List IpPrefix) where
     pub same : (p : IpPrefix) → is_inside kept p ≡ is_inside (take n names) p
     pub ahead : (j m : ℕ) (d : IpPrefix) → j < length kept → n ≤ m → m < length names → Before (get_or kept j d) (get_or names m d)
 
-  pub keeps_none : Keeps 0 []
-  keeps_none = record {
-    order = record { sorted = λ k d low h. absurd (omega (arith, h)); known = All-nil IsIpPrefix };
-    apart = λ i j d lt h. absurd (omega (arith, h));
-    same = λ p. refl;
-    ahead = λ j m d h le lt. absurd (omega (arith, h));
-  }
-
   module _ (order : InOrder names) (n : ℕ) (kept : List IpPrefix) (keeps : Keeps n kept) (more : n < length names) (x : IpPrefix) (read : (d : IpPrefix) → x ≡ get_or names n d) where
     next : (p : IpPrefix) → is_inside (take (n + 1) names) p ≡ (is_inside kept p || covers x p)
     next p = list_any_more (λ y. covers y p) names n x more ∙ ap (λ b. b || covers (get_or names n x) p) (sym (keeps.same p)) ∙ ap (λ (y : IpPrefix). is_inside kept p || covers y p) (sym (read x))
@@ -290,9 +282,6 @@ module _ (names : List IpPrefix) where
     pub keeps_next : (covered : Bool) → LastCovers covered → Keeps (n + 1) (cond covered kept (kept ++ x ∷ []))
     keeps_next true is = keeps_on (get_or kept (length kept - 1) x) x (is.some refl) refl (is.last (is.some refl))
     keeps_next false is = keeps_more (get_or kept (length kept - 1) x) x (λ some. refl) is.last
-
-  pub keeps_all : (n : ℕ) (kept : List IpPrefix) → Keeps n kept → length names ≤ n → (p : IpPrefix) → is_inside kept p ≡ is_inside names p
-  keeps_all n kept keeps end p = keeps.same p ∙ ap (λ (l : List IpPrefix). is_inside l p) (take_all n names end)
 
 -- ---- by reach
 
