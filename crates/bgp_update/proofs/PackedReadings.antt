@@ -17,9 +17,9 @@ use Rattle.bgp_update.specs.declared.values.FirstValues.{FirstValues}
 use Rattle.bgp_update.specs.declared.route.Route.{Route}
 use Rattle.bgp_update.specs.Paths.{PathSegment}
 use Rattle.bgp_update.specs.Segments.{path_of_value}
-use Rattle.bgp_update.specs.Attributes.{value_of, attributes_in, IsFormed, next_hop_value, route_from}
+use Rattle.bgp_update.specs.Attributes.{value_of, attributes_in, IsFormed, next_hop_value, path_from, route_from}
 use Rattle.bgp_update.specs.Values.{CanPackKept, kept_route, kept_value, keys_fault, unless_fault, KeepsFirst}
-use Rattle.bgp_update.specs.Packing.{WritesRoute, IsSpelled, spelled_path, IsWritable, HaveWidths, without_path, fields_bytes, path_part}
+use Rattle.bgp_update.specs.Packing.{WritesRoute, IsSpelled, spelled_path, IsWritable, HaveWidths, front_bytes, path_part}
 use Rattle.bgp_update.proofs.SegmentLaws.{path_in-bytes}
 use Rattle.bgp_update.proofs.AttributeLaws.{attributes_in-is, values_fine}
 use Rattle.bgp_update.proofs.FromFirstValues.{route_from_same}
@@ -61,18 +61,24 @@ four_bytes : (o : Option (List ℕ)) → IfSome o IsSpelled → unwrap_or o [] �
 four_bytes None h = refl
 four_bytes (Some value) h = h.written ∙ ap path_part (sym (spelled_is value h))
 
--- the fields are those of the route, and then its path comes
-pub four_route : (first : FirstValues) (hop : Option NextHop) (fields : Route) (o : Option (List ℕ)) (b : Bool) (old mid new : List ℕ) → CanPackKept Four first → fields ≡ without_path (by_hop (kept_route Four first) hop) → HaveWidths fields
-    → o ≡ kept_value first AsPath → b ≡ is_some o → mid ≡ old ++ fields_bytes fields b → new ≡ mid ++ unwrap_or o [] → WritesRoute old new (by_hop (kept_route Four first) hop)
-unfolding route_from fields_bytes
-four_route first hop fields o b old mid new can fields_are widths o-is b-is start end =
+-- what stands in front of the path comes, and then the path as it is written
+pub four_route : (first : FirstValues) (hop : Option NextHop) (o : Option (List ℕ)) (b : Bool) (old mid new : List ℕ) → CanPackKept Four first → HaveWidths (by_hop (kept_route Four first) hop)
+    → o ≡ kept_value first AsPath → b ≡ is_some o → mid ≡ old ++ front_bytes (by_hop (kept_route Four first) hop) b → new ≡ mid ++ unwrap_or o [] → WritesRoute old new (by_hop (kept_route Four first) hop)
+unfolding route_from
+four_route first hop o b old mid new can widths o-is b-is start end =
     let r : Route = by_hop (kept_route Four first) hop in
     let h : IfSome (kept_value first AsPath) IsSpelled = can.four refl in
     let there : b ≡ is_some r.path = b-is ∙ ap is_some o-is ∙ four_there (kept_value first AsPath) h in
     let path : unwrap_or o [] ≡ path_part r.path = ap (λ (x : Option (List ℕ)). unwrap_or x []) o-is ∙ four_bytes (kept_value first AsPath) h in
-    let w = subst HaveWidths fields_are widths in
-    route_with_path r b r.path old mid new (record { next_hop = w.next_hop; med = w.med; local_pref = w.local_pref; aggregator = w.aggregator }) can.writable
-    there refl (start ∙ ap (λ (f : Route). old ++ fields_bytes f b) fields_are) (end ∙ ap (λ (xs : List ℕ). mid ++ xs) path)
+    route_with_path r b r.path old mid new widths can.writable there refl start (end ∙ ap (λ (xs : List ℕ). mid ++ xs) path)
+
+-- the path of what is kept, by whichever next hop
+pub path_of_kept : (width : Width) (first : FirstValues) (hop : Option NextHop) (path : Option (List PathSegment)) → path ≡ path_from width (kept_value first) → (by_hop (kept_route width first) hop).path ≡ path
+unfolding route_from
+path_of_kept width first hop path e = sym e
+
+pub path_flag_of_kept : (width : Width) (first : FirstValues) (hop : Option NextHop) (path : Option (List PathSegment)) → path ≡ path_from width (kept_value first) → is_some (by_hop (kept_route width first) hop).path ≡ is_some path
+path_flag_of_kept width first hop path e = ap is_some (path_of_kept width first hop path e)
 
 -- by the next hop of NEXT_HOP a route is itself
 pub by_own_hop : (width : Width) (value_at : AttributeType → Option (List ℕ)) (hop : Option NextHop) → hop ≡ next_hop_value (value_at AsNextHop) → by_hop (route_from width value_at) hop ≡ route_from width value_at

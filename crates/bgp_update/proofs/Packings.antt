@@ -17,7 +17,7 @@ use Rattle.bgp_update.specs.Paths.{PathSegment}
 use Rattle.bgp_update.specs.Multiprotocol.{FitsHop}
 use Rattle.bgp_update.specs.Segments.{path_bytes, IsPath}
 use Rattle.bgp_update.proofs.SegmentLaws.{path_in-bytes}
-use Rattle.bgp_update.specs.Packing.{FitsAggregator, HaveWidths, IsWritable, CanPack, WritesRoute, flag, origin_code, hop_code, field_flags, packed_hop_bytes, number_bytes, aggregator_bytes, path_part, route_bytes, origin_bits, hop_bits, flag_bit, hop_len, med_at, local_pref_at, aggregator_at, path_at, origin_by, hop_by, number_by, aggregator_by, spelled_path, path_by, unpacked, IsPacked, IsSpelled, fields_bytes}
+use Rattle.bgp_update.specs.Packing.{FitsAggregator, HaveWidths, IsWritable, CanPack, WritesRoute, flag, origin_code, hop_code, field_flags, packed_hop_bytes, number_bytes, aggregator_bytes, path_part, route_bytes, origin_bits, hop_bits, flag_bit, hop_len, starts_in, origin_by, hop_by, number_by, aggregator_by, spelled_path, path_by, unpacked, IsPacked, IsSpelled, front_bytes}
 
 -- ---- flags
 
@@ -130,25 +130,25 @@ pub record AreLaid (bytes : List ℕ) (r : Route) : Type 0 where
   pub flags : AreFlags (get_or bytes 0 0) (origin_code r.origin) (flag r.atomic) (hop_code r.next_hop) (flag (is_some r.med)) (flag (is_some r.local_pref)) (flag (is_some r.aggregator))
   pub path_flag : get_or bytes 1 0 ≡ flag (is_some r.path)
   pub hop : drop 2 bytes ≡ packed_hop_bytes r.next_hop ++ med_on r
-  pub med : drop (med_at bytes) bytes ≡ med_on r
-  pub local_pref : drop (local_pref_at bytes) bytes ≡ local_pref_on r
-  pub aggregator : drop (aggregator_at bytes) bytes ≡ aggregator_on r
-  pub path : drop (path_at bytes) bytes ≡ path_on r
+  pub med : drop (starts_in bytes).med bytes ≡ med_on r
+  pub local_pref : drop (starts_in bytes).local_pref bytes ≡ local_pref_on r
+  pub aggregator : drop (starts_in bytes).aggregator bytes ≡ aggregator_on r
+  pub path : drop (starts_in bytes).path bytes ≡ path_on r
 
 -- one part further on
 drop_on : (at n : ℕ) (bytes front rest : List ℕ) → drop at bytes ≡ front ++ rest → length front ≡ n → drop (at + n) bytes ≡ rest
 drop_on at n bytes front rest e len = sym (drop-drop n at bytes) ∙ ap (drop n) e ∙ drop_at front rest n len
 
 pub are_laid : (r : Route) → AreLaid (route_bytes r) r
-unfolding route_bytes med_at local_pref_at aggregator_at path_at
+unfolding route_bytes starts_in
 are_laid r =
     let bytes : List ℕ = route_bytes r in
     let f = flags_are r in
-    let med : drop (med_at bytes) bytes ≡ med_on r = drop_on 2 (hop_len (hop_bits bytes)) bytes (packed_hop_bytes r.next_hop) (med_on r) refl (hop_len-is r.next_hop ∙ ap hop_len (sym f.hop)) in
-    let local_pref : drop (local_pref_at bytes) bytes ≡ local_pref_on r =
-    drop_on (med_at bytes) (4 * flag_bit 32 bytes) bytes (number_bytes r.med) (local_pref_on r) med (number_len-is r.med ∙ ap (λ (n : ℕ). 4 * n) (sym f.med)) in
-    let aggregator : drop (aggregator_at bytes) bytes ≡ aggregator_on r =
-    drop_on (local_pref_at bytes) (4 * flag_bit 64 bytes) bytes (number_bytes r.local_pref) (aggregator_on r) local_pref (number_len-is r.local_pref ∙ ap (λ (n : ℕ). 4 * n) (sym f.local_pref)) in
+    let med : drop (starts_in bytes).med bytes ≡ med_on r = drop_on 2 (hop_len (hop_bits bytes)) bytes (packed_hop_bytes r.next_hop) (med_on r) refl (hop_len-is r.next_hop ∙ ap hop_len (sym f.hop)) in
+    let local_pref : drop (starts_in bytes).local_pref bytes ≡ local_pref_on r =
+    drop_on (starts_in bytes).med (4 * flag_bit 32 bytes) bytes (number_bytes r.med) (local_pref_on r) med (number_len-is r.med ∙ ap (λ (n : ℕ). 4 * n) (sym f.med)) in
+    let aggregator : drop (starts_in bytes).aggregator bytes ≡ aggregator_on r =
+    drop_on (starts_in bytes).local_pref (4 * flag_bit 64 bytes) bytes (number_bytes r.local_pref) (aggregator_on r) local_pref (number_len-is r.local_pref ∙ ap (λ (n : ℕ). 4 * n) (sym f.local_pref)) in
     record {
       flags = f;
       path_flag = refl;
@@ -156,7 +156,7 @@ are_laid r =
       med = med;
       local_pref = local_pref;
       aggregator = aggregator;
-      path = drop_on (aggregator_at bytes) (8 * flag_bit 128 bytes) bytes (aggregator_bytes r.aggregator) (path_on r) aggregator (aggregator_len-is r.aggregator ∙ ap (λ (n : ℕ). 8 * n) (sym f.aggregator));
+      path = drop_on (starts_in bytes).aggregator (8 * flag_bit 128 bytes) bytes (aggregator_bytes r.aggregator) (path_on r) aggregator (aggregator_len-is r.aggregator ∙ ap (λ (n : ℕ). 8 * n) (sym f.aggregator));
     }
 
 -- what is packed is unpacked again
@@ -175,17 +175,17 @@ unpacked-laid bytes r h w = λ i. record {
     next_hop : hop_by (hop_bits bytes) (drop 2 bytes) ≡ r.next_hop
     next_hop = ap (λ (k : ℕ). hop_by k (drop 2 bytes)) w.flags.hop ∙ ap (hop_by (hop_code r.next_hop)) w.hop ∙ hop_again r.next_hop (med_on r) h.fields.next_hop
 
-    med : number_by (flag_bit 32 bytes) (drop (med_at bytes) bytes) ≡ r.med
-    med = ap (λ (k : ℕ). number_by k (drop (med_at bytes) bytes)) w.flags.med ∙ ap (number_by (flag (is_some r.med))) w.med ∙ number_again r.med (local_pref_on r) h.fields.med
+    med : number_by (flag_bit 32 bytes) (drop (starts_in bytes).med bytes) ≡ r.med
+    med = ap (λ (k : ℕ). number_by k (drop (starts_in bytes).med bytes)) w.flags.med ∙ ap (number_by (flag (is_some r.med))) w.med ∙ number_again r.med (local_pref_on r) h.fields.med
 
-    local_pref : number_by (flag_bit 64 bytes) (drop (local_pref_at bytes) bytes) ≡ r.local_pref
-    local_pref = ap (λ (k : ℕ). number_by k (drop (local_pref_at bytes) bytes)) w.flags.local_pref ∙ ap (number_by (flag (is_some r.local_pref))) w.local_pref ∙ number_again r.local_pref (aggregator_on r) h.fields.local_pref
+    local_pref : number_by (flag_bit 64 bytes) (drop (starts_in bytes).local_pref bytes) ≡ r.local_pref
+    local_pref = ap (λ (k : ℕ). number_by k (drop (starts_in bytes).local_pref bytes)) w.flags.local_pref ∙ ap (number_by (flag (is_some r.local_pref))) w.local_pref ∙ number_again r.local_pref (aggregator_on r) h.fields.local_pref
 
-    aggregator : aggregator_by (flag_bit 128 bytes) (drop (aggregator_at bytes) bytes) ≡ r.aggregator
-    aggregator = ap (λ (k : ℕ). aggregator_by k (drop (aggregator_at bytes) bytes)) w.flags.aggregator ∙ ap (aggregator_by (flag (is_some r.aggregator))) w.aggregator ∙ aggregator_again r.aggregator (path_on r) h.fields.aggregator
+    aggregator : aggregator_by (flag_bit 128 bytes) (drop (starts_in bytes).aggregator bytes) ≡ r.aggregator
+    aggregator = ap (λ (k : ℕ). aggregator_by k (drop (starts_in bytes).aggregator bytes)) w.flags.aggregator ∙ ap (aggregator_by (flag (is_some r.aggregator))) w.aggregator ∙ aggregator_again r.aggregator (path_on r) h.fields.aggregator
 
-    path : path_by (get_or bytes 1 0) (drop (path_at bytes) bytes) ≡ r.path
-    path = ap (λ (k : ℕ). path_by k (drop (path_at bytes) bytes)) w.path_flag ∙ ap (path_by (flag (is_some r.path))) w.path ∙ path_again r.path h.path
+    path : path_by (get_or bytes 1 0) (drop (starts_in bytes).path bytes) ≡ r.path
+    path = ap (λ (k : ℕ). path_by k (drop (starts_in bytes).path bytes)) w.path_flag ∙ ap (path_by (flag (is_some r.path))) w.path ∙ path_again r.path h.path
 
     origin : origin_by (origin_bits bytes) ≡ r.origin
     origin = ap origin_by w.flags.origin ∙ origin_again r.origin
@@ -208,8 +208,8 @@ packed_laid bytes h = subst (λ (b : List ℕ). AreLaid b (unpacked bytes)) (sym
 
 -- ---- room
 
-pub length_route : (r : Route) → path_at (route_bytes r) ≤ length (route_bytes r)
-unfolding route_bytes med_at local_pref_at aggregator_at path_at
+pub length_route : (r : Route) → (starts_in (route_bytes r)).path ≤ length (route_bytes r)
+unfolding route_bytes starts_in
 length_route r =
     let f = flags_are r in
     let hop : hop_len (hop_bits (route_bytes r)) ≡ length (packed_hop_bytes r.next_hop) = ap hop_len f.hop ∙ sym (hop_len-is r.next_hop) in
@@ -222,23 +222,23 @@ length_route r =
     room k m l g hs ms ls gs ps hk hm hl hg =
         omega (arith, hk, hm, hl, hg, length-append hs (ms ++ (ls ++ (gs ++ ps))), length-append ms (ls ++ (gs ++ ps)), length-append ls (gs ++ ps), length-append gs ps)
 
-pub packed_room : (bytes : List ℕ) → IsPacked bytes → path_at bytes ≤ length bytes
-packed_room bytes h = subst (λ (b : List ℕ). path_at b ≤ length b) (sym h.written) (length_route (unpacked bytes))
+pub packed_room : (bytes : List ℕ) → IsPacked bytes → (starts_in bytes).path ≤ length bytes
+packed_room bytes h = subst (λ (b : List ℕ). (starts_in b).path ≤ length b) (sym h.written) (length_route (unpacked bytes))
 
-pub route_bytes-fields : (r : Route) → fields_bytes r (is_some r.path) ++ path_part r.path ≡ route_bytes r
-unfolding route_bytes fields_bytes
-route_bytes-fields r = grouped (field_flags r ∷ flag (is_some r.path) ∷ []) (packed_hop_bytes r.next_hop) (number_bytes r.med) (number_bytes r.local_pref) (aggregator_bytes r.aggregator) (path_part r.path)
+pub route_bytes-front : (r : Route) → front_bytes r (is_some r.path) ++ path_part r.path ≡ route_bytes r
+unfolding route_bytes front_bytes
+route_bytes-front r = grouped (field_flags r ∷ flag (is_some r.path) ∷ []) (packed_hop_bytes r.next_hop) (number_bytes r.med) (number_bytes r.local_pref) (aggregator_bytes r.aggregator) (path_part r.path)
   where
     grouped : (fs hs ms ls gs ps : List ℕ) → ((((fs ++ hs) ++ ms) ++ ls) ++ gs) ++ ps ≡ fs ++ (hs ++ (ms ++ (ls ++ (gs ++ ps))))
     grouped fs hs ms ls gs ps = simp append_assoc
 
-pub packed_path : (bytes : List ℕ) → IsPacked bytes → get_or bytes 1 0 ≡ 1 → IsSpelled (drop (path_at bytes) bytes)
+pub packed_path : (bytes : List ℕ) → IsPacked bytes → get_or bytes 1 0 ≡ 1 → IsSpelled (drop (starts_in bytes).path bytes)
 packed_path bytes h e = by_path (unpacked bytes).path h.fits.path w.path_flag w.path
   where
     w : AreLaid bytes (unpacked bytes)
     w = packed_laid bytes h
 
-    by_path : (path : Option (List PathSegment)) → IfSome path (IsPath 4) → get_or bytes 1 0 ≡ flag (is_some path) → drop (path_at bytes) bytes ≡ path_part path → IsSpelled (drop (path_at bytes) bytes)
+    by_path : (path : Option (List PathSegment)) → IfSome path (IsPath 4) → get_or bytes 1 0 ≡ flag (is_some path) → drop (starts_in bytes).path bytes ≡ path_part path → IsSpelled (drop (starts_in bytes).path bytes)
     by_path None p f d = absurd (omega (arith, e, f))
     by_path (Some path) p f d = subst IsSpelled (sym d) (spelled-bytes path p)
 
@@ -247,17 +247,17 @@ pub packs_again : (r : Route) (bytes : List ℕ) → CanPack r → bytes ≡ rou
 packs_again r bytes h e = (packed-bytes r bytes h e, ap unpacked e ∙ unpacked-bytes r h)
 
 -- the fields of a route were added, and then its path
-pub route_with_path : (r : Route) (b : Bool) (p : Option (List PathSegment)) (old mid new : List ℕ) → HaveWidths r → IsWritable r.path → b ≡ is_some r.path → r.path ≡ p → mid ≡ old ++ fields_bytes r b → new ≡ mid ++ path_part p → WritesRoute old new r
+pub route_with_path : (r : Route) (b : Bool) (p : Option (List PathSegment)) (old mid new : List ℕ) → HaveWidths r → IsWritable r.path → b ≡ is_some r.path → r.path ≡ p → mid ≡ old ++ front_bytes r b → new ≡ mid ++ path_part p → WritesRoute old new r
 route_with_path r b p old mid new widths writable flag_is path_is first second = record {
-  bytes = second ∙ ap (λ (xs : List ℕ). xs ++ path_part p) first ∙ append_assoc old (fields_bytes r b) (path_part p)
-      ∙ ap (λ (c : Bool). old ++ (fields_bytes r c ++ path_part p)) flag_is ∙ ap (λ (q : Option (List PathSegment)). old ++ (fields_bytes r (is_some r.path) ++ path_part q)) (sym path_is) ∙ ap (λ (xs : List ℕ). old ++ xs) (route_bytes-fields r);
+  bytes = second ∙ ap (λ (xs : List ℕ). xs ++ path_part p) first ∙ append_assoc old (front_bytes r b) (path_part p)
+      ∙ ap (λ (c : Bool). old ++ (front_bytes r c ++ path_part p)) flag_is ∙ ap (λ (q : Option (List PathSegment)). old ++ (front_bytes r (is_some r.path) ++ path_part q)) (sym path_is) ∙ ap (λ (xs : List ℕ). old ++ xs) (route_bytes-front r);
   packs = record { fields = widths; path = writable };
 }
 
 -- the path of packed bytes, as it is read
-pub path_slice : (bytes inside : List ℕ) (at : ℕ) → bytes ≡ inside → at ≡ path_at bytes → take (length bytes - at) (drop at bytes) ≡ drop (path_at inside) inside
-path_slice bytes inside at same e = take_rest bytes at ∙ ap (λ (n : ℕ). drop n bytes) e ∙ ap (λ (b : List ℕ). drop (path_at b) b) same
+pub path_slice : (bytes inside : List ℕ) (at : ℕ) → bytes ≡ inside → at ≡ (starts_in bytes).path → take (length bytes - at) (drop at bytes) ≡ drop (starts_in inside).path inside
+path_slice bytes inside at same e = take_rest bytes at ∙ ap (λ (n : ℕ). drop n bytes) e ∙ ap (λ (b : List ℕ). drop (starts_in b).path b) same
 
-pub path_there : (bytes : List ℕ) → get_or bytes 1 0 ≡ 1 → Some (spelled_path (drop (path_at bytes) bytes)) ≡ (unpacked bytes).path
+pub path_there : (bytes : List ℕ) → get_or bytes 1 0 ≡ 1 → Some (spelled_path (drop (starts_in bytes).path bytes)) ≡ (unpacked bytes).path
 unfolding unpacked
-path_there bytes e = ap (λ (k : ℕ). path_by k (drop (path_at bytes) bytes)) (sym e)
+path_there bytes e = ap (λ (k : ℕ). path_by k (drop (starts_in bytes).path bytes)) (sym e)

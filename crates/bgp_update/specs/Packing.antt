@@ -9,7 +9,7 @@ use Rattle.bgp_update.specs.declared.route.Origin.{Origin}
 use Rattle.bgp_update.specs.declared.route.Origin.TheVariants.{Igp, Egp, Incomplete}
 use Rattle.bgp_update.specs.declared.route.Aggregator.{Aggregator}
 use Rattle.bgp_update.specs.declared.route.Route.{Route}
-use Rattle.bgp_update.specs.declared.packed_fields.PlainFields.{PlainFields}
+use Rattle.bgp_update.specs.declared.route_ref.Starts.{Starts}
 use Rattle.bgp_update.specs.Paths.{PathSegment}
 use Rattle.bgp_update.specs.Multiprotocol.{is_hop_len, next_hop_of, FitsHop, hop_bytes}
 use Rattle.bgp_update.specs.Segments.{path_bytes, IsPath, path_in}
@@ -99,18 +99,13 @@ flag_bit weight bytes = slice_index bytes 0 / weight % 2
 abbrev pub hop_len : ℕ → ℕ
 hop_len code = if code == 0 then 0 else (if code == 1 then 4 else (if code == 2 then 16 else 32))
 
--- where the fields begin
-unfoldable pub med_at : List ℕ → ℕ
-med_at bytes = 2 + hop_len (hop_bits bytes)
-
-unfoldable pub local_pref_at : List ℕ → ℕ
-local_pref_at bytes = med_at bytes + 4 * flag_bit 32 bytes
-
-unfoldable pub aggregator_at : List ℕ → ℕ
-aggregator_at bytes = local_pref_at bytes + 4 * flag_bit 64 bytes
-
-unfoldable pub path_at : List ℕ → ℕ
-path_at bytes = aggregator_at bytes + 8 * flag_bit 128 bytes
+-- where the parts behind the next hop begin, each where the one before it ends
+unfoldable pub starts_in : List ℕ → Starts
+starts_in bytes =
+    let med : ℕ = 2 + hop_len (hop_bits bytes) in
+    let local_pref : ℕ = med + 4 * flag_bit 32 bytes in
+    let aggregator : ℕ = local_pref + 4 * flag_bit 64 bytes in
+    record { med = med; local_pref = local_pref; aggregator = aggregator; path = aggregator + 8 * flag_bit 128 bytes }
 
 abbrev pub origin_by : ℕ → Option Origin
 origin_by code =
@@ -140,10 +135,10 @@ path_by bit bytes = if bit == 1 then Some (spelled_path bytes) else None
 unfoldable pub unpacked : List ℕ → Route
 unpacked bytes = record {
   next_hop = hop_by (hop_bits bytes) (drop 2 bytes);
-  path = path_by (slice_index bytes 1) (drop (path_at bytes) bytes);
-  med = number_by (flag_bit 32 bytes) (drop (med_at bytes) bytes);
-  local_pref = number_by (flag_bit 64 bytes) (drop (local_pref_at bytes) bytes);
-  aggregator = aggregator_by (flag_bit 128 bytes) (drop (aggregator_at bytes) bytes);
+  path = path_by (slice_index bytes 1) (drop (starts_in bytes).path bytes);
+  med = number_by (flag_bit 32 bytes) (drop (starts_in bytes).med bytes);
+  local_pref = number_by (flag_bit 64 bytes) (drop (starts_in bytes).local_pref bytes);
+  aggregator = aggregator_by (flag_bit 128 bytes) (drop (starts_in bytes).aggregator bytes);
   origin = origin_by (origin_bits bytes);
   atomic = flag_bit 4 bytes == 1;
 }
@@ -165,23 +160,7 @@ pub record IsSpelled (bytes : List ℕ) : Type 0 where
   pub written : bytes ≡ path_bytes 4 (spelled_path bytes)
 
 -- the bytes in front of the path
-unfoldable pub fields_bytes : Route → Bool → List ℕ
-fields_bytes r has_path =
+unfoldable pub front_bytes : Route → Bool → List ℕ
+front_bytes r has_path =
     (((((field_flags r ∷ flag has_path ∷ []) ++ packed_hop_bytes r.next_hop) ++ number_bytes r.med)
     ++ number_bytes r.local_pref) ++ aggregator_bytes r.aggregator)
-
--- the route of these fields and a next hop, with no path
-abbrev pub route_by : PlainFields → Option NextHop → Route
-route_by fields hop = record {
-  origin = fields.origin;
-  path = None;
-  next_hop = hop;
-  med = fields.med;
-  local_pref = fields.local_pref;
-  atomic = fields.atomic;
-  aggregator = fields.aggregator;
-}
-
--- a route but for its path
-abbrev pub without_path : Route → Route
-without_path r = record r { path = None }

@@ -14,23 +14,21 @@
 //! - Attributes are found and checked in one pass, which keeps the place of the first value of each type (RFC 7606, 3
 //!   (g)). `FirstValues::take_found` branches on the type once, and each branch has a copy of the code in which the
 //!   type is a constant.
-//! - A `PackedRoute` is a route as one block of bytes: two bytes of flags, the fields that are there in a fixed order,
-//!   and the path as segments with four-octet AS numbers, as AS_PATH is written. Contracts see it as its `Route`. Its
-//!   invariant is that these are the bytes of that route and no others; so routes are equal exactly if their bytes are,
-//!   and comparing, hashing and copying need no fields. Fields are decoded when a line is written.
-//! - Up to 46 bytes are stored inline: with their length and a count of owners they take an allocation of 64 bytes. In
-//!   generated dumps nine in ten routes are that short. A `Route` takes 200 bytes in two allocations.
+//! - A route is packed into one block of bytes: two bytes of flags, the fields that are there in a fixed order, and the
+//!   path as segments with four-octet AS numbers, as AS_PATH is written. Contracts see a `RouteRef`, which borrows such
+//!   bytes, as its `Route`. Its invariant is that these are the bytes of that route and no others; so routes are equal
+//!   exactly if their bytes are, and comparing, hashing and copying need no fields. Fields are decoded when a line is
+//!   written. In generated dumps a route takes some 30 bytes.
 //! - **Decoding appends** (`decode_entry`, `decode_update`): keys go behind other keys in one list, packed routes
 //!   behind others in one block of bytes, and what is returned says where they are (`UpdateSpans`, `RouteSpan`), with a
 //!   hash of each route's bytes. So a list of units is decoded without an allocation of its own. What was appended by
 //!   a message that turns out to be damaged is left there, and nothing refers to it.
 //! - **Each key is read once** (`read_keys`). When attributes are checked, those of MP_REACH_NLRI and MP_UNREACH_NLRI
 //!   are passed over, and they are appended behind that, even if an attribute had a fault: theirs comes before it.
-//! - Attributes are packed as they are read, without a `Route` in between, except for a path of two-octet numbers,
-//!   which may have to be merged. A next hop is packed as it is written (`WrittenHop`). `read_update` and `read_attrs`
-//!   return the `Update` and the `Route` that definitions speak of.
-//! - Every route that is read can be packed, since each segment has 1 to 255 numbers (`IsWritable`); one made by hand
-//!   need not be, so `PackedRoute::pack` requires it.
+//! - Attributes are packed as they are read, without a `Route` in between; only a path of two-octet numbers, which may
+//!   have to be merged, is read first. A next hop is packed as it is written (`WrittenHop`). `read_update` and
+//!   `read_attrs` return the `Update` and the `Route` that definitions speak of.
+//! - Every route that is read can be packed, since each segment has 1 to 255 numbers (`IsWritable`).
 //! - `Route`'s fields are declared in order of size, since the compiler keeps the order: 128 bytes instead of 144.
 #![tactic(auto)]
 
@@ -49,18 +47,16 @@ mod merge;
 mod multiprotocol;
 mod next_hop;
 mod octets;
-mod packed_fields;
+mod packed_front;
 mod packed_path;
-mod packed_route;
 mod packing;
 mod path;
 mod path_equality;
+mod path_writing;
 mod route;
 mod route_fields;
 mod route_ref;
-mod route_writing;
 mod segment;
-mod short_bytes;
 mod unicast;
 mod update;
 mod update_ref;
@@ -76,7 +72,6 @@ pub use key::prefix_at;
 pub use laws::{merging_is_unique, updates_agree_with_their_forms};
 pub use next_hop::NextHop;
 pub use packed_path::{PackedSegment, PackedSegments};
-pub use packed_route::PackedRoute;
 pub use path::{AsPath, Segment, SegmentKind};
 pub use route::{Aggregator, Origin, Route, Update};
 pub use route_ref::RouteRef;

@@ -10,16 +10,15 @@ ghost use Rattle.bgp_update.specs.declared.width.Width.TheVariants.{Two, Four};
 
 use crate::attribute_type::AttributeType;
 use crate::decoded::RouteSpan;
-use crate::front_bytes::FrontBytes;
 use crate::multiprotocol::entry_hop_value;
-use crate::packed_fields::{fields_of, push_front};
-use crate::route_fields::{next_hop_value, route_from};
-use crate::route_writing::push_route;
+use crate::packed_front::push_front;
+use crate::path_writing::push_path;
+use crate::route_fields::{next_hop_value, path_from};
 use crate::unicast::Unicast;
 use crate::update::AppendedKeys;
 use crate::values::FirstValues;
 use crate::width::Width;
-use crate::written_hop::{WrittenHop, next_hop_of};
+use crate::written_hop::WrittenHop;
 use bgp_prefix::Memory;
 use std::alloc::Global;
 
@@ -34,9 +33,7 @@ fn push_four(
     ensures { OnOk result (WritesRoute out.old.items out.new.items (by_hop (kept_route Four first.now) hop.now)) }
 {
     let path = first.value(AttributeType::AsPath);
-    let mut front = FrontBytes::new();
-    push_front(&mut front, fields_of(first), hop, path.is_some());
-    front.append_to(out)?;
+    push_front(out, first, Width::Four, hop, path.is_some())?;
     match path {
         Some(path) => {
             out.extend_from_slice(path)?;
@@ -57,8 +54,9 @@ fn push_two(
     requires { CanPackKept Two first.now }
     ensures { OnOk result (WritesRoute out.old.items out.new.items (by_hop (kept_route Two first.now) hop.now)) }
 {
-    let route = route_from(alloc, first, Width::Two)?.with_next_hop(next_hop_of(hop));
-    push_route(out, &route)?;
+    let path = path_from(alloc, first, Width::Two)?;
+    push_front(out, first, Width::Two, hop, path.is_some())?;
+    push_path(out, &path)?;
     Ok(())
 }
 

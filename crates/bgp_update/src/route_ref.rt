@@ -1,6 +1,6 @@
 //! A packed route whose bytes are borrowed, and its fields.
 
-ghost use Rattle.std.specs.Prelude.{◌≡◌, ◌↔◌, ◌+◌, ◌≤◌, length, drop, IfOk, IsTrue};
+ghost use Rattle.std.specs.Prelude.{◌≡◌, ◌↔◌, ◌+◌, ◌≤◌, length, drop, IsTrue};
 ghost use Rattle.std.specs.Option.{option_and_then};
 ghost use Rattle.bgp_update.specs.Packing as packing;
 ghost use Rattle.bgp_update.specs.Packing.{IsPacked, unpacked, hop_by, hop_bits, aggregator_by, flag_bit};
@@ -9,11 +9,8 @@ ghost use Rattle.bgp_update.specs.Equality.{route_eq};
 
 use crate::next_hop::NextHop;
 use crate::packed_path::PackedSegments;
-use crate::packed_route::PackedRoute;
 use crate::route::{Aggregator, Origin};
-use bgp_prefix::Memory;
 use byteorder::{BigEndian, ByteOrder};
-use std::alloc::Global;
 use std::marker::Model;
 
 /// Reads the number at a position, if its flag is set.
@@ -40,45 +37,38 @@ fn hop_len(code: u8) -> usize
     }
 }
 
-/// The position of MULTI_EXIT_DISC, after the next hop.
-#[tactic(auto, unfolding(crate::specs::Packing::med_at))]
-fn med_at(bytes: &[u8]) -> usize
-    requires { 2 ≤ length bytes.now }
-    ensures { result ≡ packing.med_at bytes.now }
-{
-    2 + hop_len(bytes[0] / 8 % 4)
+/// Where the parts of a packed route begin. The next hop is behind the two bytes of flags.
+#[derive(Clone, Copy)]
+struct Starts {
+    med: usize,
+    local_pref: usize,
+    aggregator: usize,
+    path: usize,
 }
 
-/// The position of LOCAL_PREF.
-#[tactic(auto, unfolding(crate::specs::Packing::med_at, crate::specs::Packing::local_pref_at))]
-fn local_pref_at(bytes: &[u8]) -> usize
+/// Returns where the parts begin.
+#[inline(always)]
+#[tactic(auto, unfolding(crate::specs::Packing::starts_in))]
+fn starts_in(bytes: &[u8]) -> Starts
     requires { 2 ≤ length bytes.now }
-    ensures { result ≡ packing.local_pref_at bytes.now }
+    ensures { result ≡ packing.starts_in bytes.now }
 {
-    med_at(bytes) + 4 * (bytes[0] / 32 % 2) as usize
+    let flags = bytes[0];
+    let med = 2 + hop_len(flags / 8 % 4);
+    let local_pref = med + 4 * (flags / 32 % 2) as usize;
+    let aggregator = local_pref + 4 * (flags / 64 % 2) as usize;
+    let path = aggregator + 8 * (flags / 128) as usize;
+    Starts {
+        med,
+        local_pref,
+        aggregator,
+        path,
+    }
 }
 
-/// The position of AGGREGATOR.
-#[tactic(auto, unfolding(crate::specs::Packing::med_at, crate::specs::Packing::local_pref_at, crate::specs::Packing::aggregator_at))]
-fn aggregator_at(bytes: &[u8]) -> usize
-    requires { 2 ≤ length bytes.now }
-    ensures { result ≡ packing.aggregator_at bytes.now }
-{
-    local_pref_at(bytes) + 4 * (bytes[0] / 64 % 2) as usize
-}
-
-/// The position of the path.
-#[tactic(auto, unfolding(crate::specs::Packing::med_at, crate::specs::Packing::local_pref_at, crate::specs::Packing::aggregator_at, crate::specs::Packing::path_at))]
-fn path_at(bytes: &[u8]) -> usize
-    requires { 2 ≤ length bytes.now }
-    ensures { result ≡ packing.path_at bytes.now }
-{
-    aggregator_at(bytes) + 8 * (bytes[0] / 128) as usize
-}
-
-#[tactic(auto, unfolding(crate::specs::Packing::med_at, crate::specs::Packing::local_pref_at, crate::specs::Packing::aggregator_at, crate::specs::Packing::path_at))]
+#[tactic(auto, unfolding(crate::specs::Packing::starts_in))]
 fn next_hop_in(bytes: &[u8]) -> Option<NextHop>
-    requires { packing.path_at bytes.now ≤ length bytes.now }
+    requires { (packing.starts_in bytes.now).path ≤ length bytes.now }
     ensures { result ≡ hop_by (hop_bits bytes.now) (drop 2 bytes.now) }
 {
     match bytes[0] / 8 % 4 {
@@ -92,13 +82,13 @@ fn next_hop_in(bytes: &[u8]) -> Option<NextHop>
     }
 }
 
-#[tactic(auto, unfolding(crate::specs::Packing::med_at, crate::specs::Packing::local_pref_at, crate::specs::Packing::aggregator_at, crate::specs::Packing::path_at))]
+#[tactic(auto, unfolding(crate::specs::Packing::starts_in))]
 fn aggregator_in(bytes: &[u8]) -> Option<Aggregator>
-    requires { packing.path_at bytes.now ≤ length bytes.now }
-    ensures { result ≡ aggregator_by (flag_bit 128 bytes.now) (drop (packing.aggregator_at bytes.now) bytes.now) }
+    requires { (packing.starts_in bytes.now).path ≤ length bytes.now }
+    ensures { result ≡ aggregator_by (flag_bit 128 bytes.now) (drop (packing.starts_in bytes.now).aggregator bytes.now) }
 {
     if bytes[0] / 128 == 1 {
-        let at = aggregator_at(bytes);
+        let at = starts_in(bytes).aggregator;
         let asn = BigEndian::read_u32(&bytes[at..]);
         let addr = BigEndian::read_u32(&bytes[at + 4..]);
         Some(Aggregator { asn, addr })
@@ -167,15 +157,8 @@ impl<'a> RouteRef<'a> {
         self.has_same_bytes(other)
     }
 
-    /// Returns an equal route with bytes of its own.
-    pub fn to_packed(&self, alloc: Global) -> Result<PackedRoute, Memory>
-        ensures { IfOk result (λ copy. copy ≡ self.now) }
-    {
-        PackedRoute::of_bytes(alloc, self.bytes)
-    }
-
     /// The next hop: NEXT_HOP, or that of MP_REACH_NLRI (RFC 4271, 5.1.3; RFC 4760, 3).
-    #[tactic(auto, using(crate::proofs::Packings::packed_room), unfolding(crate::specs::Packing::unpacked, crate::specs::Packing::med_at, crate::specs::Packing::local_pref_at, crate::specs::Packing::aggregator_at, crate::specs::Packing::path_at))]
+    #[tactic(auto, using(crate::proofs::Packings::packed_room), unfolding(crate::specs::Packing::unpacked, crate::specs::Packing::starts_in))]
     pub fn next_hop(&self) -> Option<NextHop>
         ensures { result ≡ self.now.next_hop }
     {
@@ -183,25 +166,25 @@ impl<'a> RouteRef<'a> {
     }
 
     /// MULTI_EXIT_DISC (RFC 4271, 5.1.4).
-    #[tactic(auto, using(crate::proofs::Packings::packed_room), unfolding(crate::specs::Packing::unpacked, crate::specs::Packing::med_at, crate::specs::Packing::local_pref_at, crate::specs::Packing::aggregator_at, crate::specs::Packing::path_at))]
+    #[tactic(auto, using(crate::proofs::Packings::packed_room), unfolding(crate::specs::Packing::unpacked, crate::specs::Packing::starts_in))]
     pub fn med(&self) -> Option<u32>
         ensures { result ≡ self.now.med }
     {
         let bytes = self.bytes;
-        number_by(bytes, bytes[0] / 32 % 2, med_at(bytes))
+        number_by(bytes, bytes[0] / 32 % 2, starts_in(bytes).med)
     }
 
     /// LOCAL_PREF (RFC 4271, 5.1.5).
-    #[tactic(auto, using(crate::proofs::Packings::packed_room), unfolding(crate::specs::Packing::unpacked, crate::specs::Packing::med_at, crate::specs::Packing::local_pref_at, crate::specs::Packing::aggregator_at, crate::specs::Packing::path_at))]
+    #[tactic(auto, using(crate::proofs::Packings::packed_room), unfolding(crate::specs::Packing::unpacked, crate::specs::Packing::starts_in))]
     pub fn local_pref(&self) -> Option<u32>
         ensures { result ≡ self.now.local_pref }
     {
         let bytes = self.bytes;
-        number_by(bytes, bytes[0] / 64 % 2, local_pref_at(bytes))
+        number_by(bytes, bytes[0] / 64 % 2, starts_in(bytes).local_pref)
     }
 
     /// AGGREGATOR (RFC 4271, 5.1.7).
-    #[tactic(auto, using(crate::proofs::Packings::packed_room), unfolding(crate::specs::Packing::unpacked, crate::specs::Packing::med_at, crate::specs::Packing::local_pref_at, crate::specs::Packing::aggregator_at, crate::specs::Packing::path_at))]
+    #[tactic(auto, using(crate::proofs::Packings::packed_room), unfolding(crate::specs::Packing::unpacked, crate::specs::Packing::starts_in))]
     pub fn aggregator(&self) -> Option<Aggregator>
         ensures { result ≡ self.now.aggregator }
     {
@@ -209,7 +192,7 @@ impl<'a> RouteRef<'a> {
     }
 
     /// ORIGIN (RFC 4271, 5.1.1).
-    #[tactic(auto, using(crate::proofs::Packings::packed_room), unfolding(crate::specs::Packing::unpacked, crate::specs::Packing::med_at, crate::specs::Packing::local_pref_at, crate::specs::Packing::aggregator_at, crate::specs::Packing::path_at))]
+    #[tactic(auto, using(crate::proofs::Packings::packed_room), unfolding(crate::specs::Packing::unpacked, crate::specs::Packing::starts_in))]
     pub fn origin(&self) -> Option<Origin>
         ensures { result ≡ self.now.origin }
     {
@@ -222,7 +205,7 @@ impl<'a> RouteRef<'a> {
     }
 
     /// Whether ATOMIC_AGGREGATE is present (RFC 4271, 5.1.6).
-    #[tactic(auto, using(crate::proofs::Packings::packed_room), unfolding(crate::specs::Packing::unpacked, crate::specs::Packing::med_at, crate::specs::Packing::local_pref_at, crate::specs::Packing::aggregator_at, crate::specs::Packing::path_at))]
+    #[tactic(auto, using(crate::proofs::Packings::packed_room), unfolding(crate::specs::Packing::unpacked, crate::specs::Packing::starts_in))]
     pub fn atomic(&self) -> bool
         ensures { result ≡ self.now.atomic }
     {
@@ -230,13 +213,13 @@ impl<'a> RouteRef<'a> {
     }
 
     /// The segments of AS_PATH (RFC 4271, 5.1.2).
-    #[tactic(auto, using(crate::proofs::Packings::packed_room, crate::proofs::Packings::packed_path), unfolding(crate::specs::Packing::unpacked, crate::specs::Packing::med_at, crate::specs::Packing::local_pref_at, crate::specs::Packing::aggregator_at, crate::specs::Packing::path_at))]
+    #[tactic(auto, using(crate::proofs::Packings::packed_room, crate::proofs::Packings::packed_path), unfolding(crate::specs::Packing::unpacked, crate::specs::Packing::starts_in))]
     pub fn path(&self) -> Option<PackedSegments<'a>>
         ensures { result ≡ self.now.path }
     {
         let bytes = self.bytes;
         if bytes[1] == 1 {
-            Some(PackedSegments::of_bytes(&bytes[path_at(bytes)..]))
+            Some(PackedSegments::of_bytes(&bytes[starts_in(bytes).path..]))
         } else {
             None
         }

@@ -1,8 +1,10 @@
 //! The lines of rows, each beside its text.
 
+ghost use Rattle.bgp_update.specs.Decoded.{IsRouteAt};
+
 use crate::churns::churn_of;
-use bgp_prefix::{Prefix, RouteKey, Sequence};
-use bgp_update::{NextHop, PackedRoute, Width, read_attrs};
+use bgp_prefix::{Ipv6, Prefix, RouteKey, Sequence};
+use bgp_update::{RouteRef, RouteSpan, Width, decode_entry};
 use fixtures::bytes_of;
 use mrt_frame::{Counted, Fault};
 use peer_units::{Damage, PeerAddr, PeerKey, Place};
@@ -46,23 +48,41 @@ fn key(addr: u32, len: u8, id: u32) -> RouteKey {
     }
 }
 
-/// The route that these attributes encode in hexadecimal, but with this next hop.
-fn route_by(
-    rt: &impl Abort,
-    alloc: Global,
-    attributes: &str,
-    next_hop: Option<NextHop>,
-) -> PackedRoute {
-    let bytes = bytes_of(alloc, attributes).expect(rt, attributes);
-    let route = read_attrs::<u32>(alloc, bytes.as_slice(), Width::Four).expect(rt, attributes);
-    PackedRoute::pack(alloc, &route.with_next_hop(next_hop)).expect(rt, attributes)
+/// The packed bytes of a route, and where it stands among them.
+type Packed = (Vec<u8>, RouteSpan);
+
+/// Packs the route that these attributes of an IPv6 entry encode in hexadecimal, by these addresses as next hop.
+fn packed(rt: &impl Abort, alloc: Global, attributes: &str, hops: &[u128]) -> Packed
+    ensures { IsRouteAt result.0.items result.1 }
+{
+    let mut attrs = bytes_of(alloc, attributes).expect(rt, attributes);
+    let head: &[u8] = match hops.len() {
+        0 => &[],
+        1 => &[0x80, 14, 17, 16],
+        _ => &[0x80, 14, 33, 32],
+    };
+    attrs.extend_from_slice(head).expect(rt, attributes);
+    for hop in hops {
+        attrs.extend_from_slice(&hop.to_be_bytes()).expect(rt, attributes);
+    }
+    let mut bytes = Vec::new(alloc);
+    let span = decode_entry::<Ipv6>(alloc, &mut bytes, attrs.as_slice(), Width::Four);
+    let span = span.expect(rt, attributes);
+    (bytes, span)
+}
+
+/// The route.
+fn route_of(packed: &Packed) -> RouteRef<'_>
+    requires { IsRouteAt packed.now.0.items packed.now.1 }
+{
+    packed.1.route(packed.0.as_slice()).route
 }
 
 /// An empty AS_PATH, and a MED of zero.
 static EMPTY_PATH: &str = "40010101 400200 80040400000000";
 
-/// No AS_PATH, and zeros.
-static SHORT: &str = "40010100 40050400000000 C0070800000000 00000000";
+/// No AS_PATH, zeros, and an IPv4 next hop.
+static SHORT: &str = "40010100 40050400000000 C0070800000000 00000000 800E05 04 0A000001";
 
 /// Every number at its greatest, and an AS_PATH with a segment of each kind.
 static GREATEST: &str = "40010102
@@ -72,40 +92,31 @@ static GREATEST: &str = "40010102
 #[test]
 fn each_field_of_a_route_has_its_text(rt: HostRuntime) {
     let alloc = rt.alloc();
-    let bare = route_by(&rt, alloc, "", None);
-    let empty_path = route_by(
-        &rt,
-        alloc,
-        EMPTY_PATH,
-        Some(NextHop::V6(0x2001_0DB8_0000_0000_0000_0000_0000_0001)),
-    );
-    let short = route_by(&rt, alloc, SHORT, Some(NextHop::V4(0x0A00_0001)));
-    let greatest = route_by(
-        &rt,
-        alloc,
-        GREATEST,
-        Some(NextHop::V6Pair(u128::MAX, 0xFE80 << 112)),
-    );
+    let bare = packed(&rt, alloc, "", &[]);
+    let first_address = address(0x2001_0DB8 << 32, 1);
+    let empty_path = packed(&rt, alloc, EMPTY_PATH, &[first_address]);
+    let short = packed(&rt, alloc, SHORT, &[]);
+    let greatest = packed(&rt, alloc, GREATEST, &[u128::MAX, 0xFE80 << 112]);
     let rows = [
         TableRow {
             peer: PEER,
             key: key(0, 0, 0),
-            route: bare.route_ref(),
+            route: route_of(&bare),
         },
         TableRow {
             peer: PEER,
             key: key(0x0A00_0000, 8, 1),
-            route: empty_path.route_ref(),
+            route: route_of(&empty_path),
         },
         TableRow {
             peer: PEER,
             key: key(0x0A0F_FFFF, 12, 10),
-            route: short.route_ref(),
+            route: route_of(&short),
         },
         TableRow {
             peer: LAST_PEER,
             key: key(u32::MAX, 32, u32::MAX),
-            route: greatest.route_ref(),
+            route: route_of(&greatest),
         },
     ];
     let lines = "65000 192.0.2.1|0.0.0.0/0|-|-|-|-|-|-|-
@@ -157,14 +168,14 @@ fn each_address_has_its_short_text(rt: HostRuntime) -> Result<(), Fail> {
     let alloc = rt.alloc();
     for (high, low, text) in &SHORT_TEXTS {
         let addr = address(*high, *low);
-        let route = route_by(&rt, alloc, "", Some(NextHop::V6(addr)));
+        let route = packed(&rt, alloc, "", &[addr]);
         let rows = [TableRow {
             peer: PeerKey {
                 asn: 65_000,
                 addr: PeerAddr::V6(addr),
             },
             key: key(0, 0, 0),
-            route: route.route_ref(),
+            route: route_of(&route),
         }];
         let mut out = Counted::new(Vec::<u8>::new(alloc));
         assert!(rt; write_rows(&mut out, AddressForms::all(AddressForm::Short), &rows).is_ok());
@@ -177,15 +188,15 @@ fn each_address_has_its_short_text(rt: HostRuntime) -> Result<(), Fail> {
 #[test]
 fn peers_and_routes_have_their_own_forms(rt: HostRuntime) {
     let alloc = rt.alloc();
-    let pair = NextHop::V6Pair(address(0x2001_0DB8 << 32, 1), address(0xFE80 << 48, 2));
-    let route = route_by(&rt, alloc, "", Some(pair));
+    let pair = [address(0x2001_0DB8 << 32, 1), address(0xFE80 << 48, 2)];
+    let route = packed(&rt, alloc, "", &pair);
     let rows = [TableRow {
         peer: PeerKey {
             asn: 65_000,
             addr: PeerAddr::V6(1),
         },
         key: key(0, 0, 0),
-        route: route.route_ref(),
+        route: route_of(&route),
     }];
     let forms = AddressForms {
         routes: AddressForm::Short,

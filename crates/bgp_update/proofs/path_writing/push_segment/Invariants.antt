@@ -2,7 +2,7 @@ use Rattle.std.proofs.Common.{◌≡◌, ◌++◌, ◌∷◌, length, take}
 use Rattle.std.specs.List.{flat_map}
 use Rattle.byteorder.specs.Endian.{big_bytes}
 use Rattle.bgp_update.specs.Segments.{kind_number}
-use Rattle.bgp_update.proofs.route_writing.push_segment.Given as goal
+use Rattle.bgp_update.proofs.path_writing.push_segment.Given as goal
 
 abbrev pub invariant-loop-n : goal.invariant-loop-n
 invariant-loop-n l = record {
