@@ -20,7 +20,11 @@
 //! - **`--summary` takes its peak of memory** from `/proc/self/status`. Nothing is proved of it but that it is safe.
 #![tactic(auto)]
 
-ghost use Rattle.std.specs.Prelude.{◌≡◌, ◌≤◌, ◌*◌, min, IfOk, IsTrue};
+ghost use Rattle.std.specs.Prelude.{◌≡◌, ◌≤◌, ◌*◌, map, min, IfOk, IsTrue};
+ghost use Rattle.mrt_frame.specs.Devices.{counted_device, counted_failures, counted_flush};
+ghost use Rattle.mrt_replay.specs.Headline.{IsPromised};
+ghost use Rattle.report_request.specs.Requests.{request_of};
+ghost use Rattle.replay_io.specs.Devices.{dump_remaining, report_contents};
 ghost use Rattle.lane_deal.specs.Plans.{IsPlan};
 
 mod lists;
@@ -42,14 +46,14 @@ use notes::tell_notes;
 use packed_io::PackedFiles;
 use peer_units::{ChosenPrefixes, PrefixChoice, Reach, Selection};
 use replay_io::{
-    Board, Counter, Counts, Device, Files, Input, Naps, OpenError, Output, Report, Watched,
+    Board, Counter, Counts, Device, Dump, Files, Input, Naps, OpenError, Output, Report, Watched,
     columns, inputs_of, packed_files_of, terminal_width,
 };
 use report_request::Request;
 use rib_report::WrittenAddress;
 use std::alloc::Global;
 use std::env::{Env, FillError};
-use std::io::ErrorKind;
+use std::io::{ErrorKind, Read, Write};
 use std::marker::{Send, Sync};
 use std::process::ExitCode;
 use std::thread::{Threads, available_parallelism, join};
@@ -373,14 +377,30 @@ struct Given<'a, F: Unicast> {
 }
 
 /// Replays dumps.
-fn replay<F: Replayed, R: Threads + Sync>(
+fn replay<F: Replayed, R: Threads + Sync, D: Read + Drop + Send, W: Write>(
     rt: &HostRuntime,
     threads: &R,
     given: &Given<'_, F>,
     selection: Selection<F>,
-    inputs: &mut [Input<'_, '_>],
-    out: &mut Output<'_>,
-) -> Result<Summary, ReplayError> {
+    inputs: &mut [Counted<Dump<'_, D>>],
+    out: &mut Counted<Report<'_, W>>,
+) -> Result<Summary, ReplayError>
+    ensures promised { IsPromised (record {
+      request = request_of F.bits given.now.job.now.request;
+      layout = given.now.job.now.layout;
+      selection = selection;
+      plan = given.now.plan;
+      told = map (λ input. dump_remaining D.remaining (counted_device input)) inputs.old;
+      held = report_contents W.contents (counted_device out.old);
+      held_after = report_contents W.contents (counted_device out.new);
+      readers = map counted_failures inputs.old;
+      readers_after = map counted_failures inputs.new;
+      writer = counted_failures out.old;
+      writer_after = counted_failures out.new;
+      flushed_after = counted_flush out.new;
+      result = result;
+    }) }
+{
     run::<F, ChunkedMap<F, RouteId>, _, _, _, _, _>(
         threads,
         rt.alloc(),
