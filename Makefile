@@ -33,7 +33,7 @@ help:
 	@echo 'make run          replays the sample by `tables`'
 	@echo 'make check        the gate: every proof, must-fail edit, test and run from nothing, make scripts, make quick-check and make python-check'
 	@echo 'make verdict      each crate from nothing, with its tests'
-	@echo 'make scripts      tries lines, notes and statuses, the packages, recipes, shares of the peers, packed dumps, and what the build records and refuses'
+	@echo 'make scripts      tries lines, notes and statuses, the packages, recipes, shares of the peers, packed dumps, what the build records and refuses, and that pages and comments name what there is'
 	@echo 'make quick-check  builds that program, and tries it'
 	@echo 'make python-check tries the Python package, with pandas and Dask (Debian packages that it installs as root)'
 	@echo 'make refusals     fails each allocation, read, write and thread start in turn'
@@ -99,7 +99,7 @@ deb: proved
 python-deb: $(BINARY)
 	tools/pack.sh python-deb '$(BINARY)' '$(DIST)'
 
-# Lines and statuses, packages, recipes, what the build records and refuses, and pages that are made: quick.
+# Lines and statuses, packages, recipes, what the build records and refuses, pages that are made, and names: quick.
 scripts: $(BINARY)
 	tests/program.sh '$(BINARY)'
 	tests/family.sh '$(BINARY)'
@@ -112,6 +112,8 @@ scripts: $(BINARY)
 	tests/build.sh
 	python3 tools/model_index.py --check
 	python3 tools/options.py --check
+	python3 tools/names.py --check
+	tests/names.sh
 
 # The trial build works, what it makes passes the recipes, and is neither installed nor packed.
 quick-check: $(QUICK)

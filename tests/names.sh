@@ -1,0 +1,48 @@
+#!/usr/bin/env bash
+# Tries tools/names.py in a copy of the repository: as it is it passes, and each wrong name and each wrong row is named.
+#   tests/names.sh
+# Needs bash, python3, tar and coreutils. The last line is `N passed, M failed`.
+set -u
+top=$(dirname "$(dirname "$(realpath "$0")")"); work=$(mktemp -d); trap 'rm -rf "$work"' EXIT
+export LC_ALL=C.UTF-8
+passed=0; failed=0
+check() { local name=$1; shift; if "$@" > "$work/log" 2>&1; then passed=$((passed + 1)); else failed=$((failed + 1)); echo "wrong: $name"; head -n 5 "$work/log" | sed 's/^/  /'; fi; }
+
+copy=$work/copy; mkdir "$copy"
+tar -C "$top" --exclude=.git --exclude=./bin --exclude=./dist --exclude='./crates/*/out' -cf - . | tar -C "$copy" -xf - || exit 2
+names() { python3 "$copy/tools/names.py" --check > "$work/said" 2>&1; }
+names; check 'the repository as it is: status' [ $? = 0 ]
+check 'the repository as it is: nothing is said' cmp "$work/said" /dev/null
+
+# what is planted, and what has to be said of it: a line is FILE:LINE: NAME, with what follows left out
+wanted=()
+plant() { # FILE TEXT [NAME..]: a text behind the last line, and the wrong names in it, which begin in its first line
+  local file=$1 text=$2 line; shift 2
+  line=$(($(wc -l < "$copy/$file") + 2)); printf '\n%s\n' "$text" >> "$copy/$file"
+  for name in "$@"; do wanted+=("$file:$line: $name"); done
+}
+plant docs/MODEL.md 'The function `gone_away` is not there; `event_in`, `Units` and `--until` are.' gone_away
+plant docs/MODEL.md 'Nor is `Units::gone`, while `Units::lend` is.' 'Units::gone'
+plant docs/USAGE.md 'No option is `--gone`, and no command `bgp_replay gone rib.mrt`.' --gone 'bgp_replay gone rib.mrt'
+plant docs/PROOFS.md 'No file is `mrt_body/specs/Gone.antt`, nor `tests/gone.sh`, while `mrt_body/specs/Units.antt` is.' mrt_body/specs/Gone.antt tests/gone.sh
+plant docs/PROOFS.md 'No edit is `takes-what-is-gone`.' takes-what-is-gone
+plant README.md 'No target is `make gone`, and `rt gone` no command.' 'make gone' 'rt gone'
+plant CONTRIBUTING.md $'A name may go on in the next line: `fn\n  gone_on`.' 'fn gone_on'
+plant CONTRIBUTING.md $'An example names what it likes:\n\n    $ bgp_replay `gone_example`'
+plant crates/mrt_frame/src/header.rt '// `gone_header` is in no crate, and `ChunkedMap` is in one above.' gone_header ChunkedMap
+plant crates/mrt_frame/src/header.rt '// `ChunkedMap` of `chunked_map` is named with its crate, and `"gone_text"` is a text; `gone_local` is nothing.' gone_local
+plant crates/mrt_frame/specs/Cuts.antt '-- no definition is `gone_cut`' gone_cut
+touch "$copy/crates/mrt_frame/src/unlisted.rt"; wanted+=('docs/ARCHITECTURE.md:1: crates/mrt_frame/src/unlisted.rt')
+row=$(grep -n '^| `field.rt` | fields' "$copy/docs/ARCHITECTURE.md" | cut -d : -f 1)
+sed -i "${row}a | \`field.rt\`, \`gone.rt\`, \`lib.rt\` | a second row |" "$copy/docs/ARCHITECTURE.md"; row=$((row + 1))
+wanted+=("docs/ARCHITECTURE.md:$row: crates/mrt_frame/src/field.rt" "docs/ARCHITECTURE.md:$row: crates/mrt_frame/src/gone.rt")
+wanted+=("docs/ARCHITECTURE.md:$row: crates/mrt_frame/src/lib.rt" "docs/ARCHITECTURE.md:$row: gone.rt")
+sed -i 's/^EXCEPTIONS = {$/&\n    "gone_exception": "a test",/; s/^AWAITED = {/&"README.md: gone_awaited": "a test",/' "$copy/tools/names.py"
+wanted+=('tools/names.py: gone_exception' 'tools/names.py: README.md: gone_awaited')
+names; check 'what is planted: status' [ $? = 1 ]
+for line in "${wanted[@]}"; do check "it is named: $line" grep -qF -- "$line: " "$work/said"; done
+check 'no more is named' [ "$(wc -l < "$work/said")" = "${#wanted[@]}" ]
+
+python3 "$copy/tools/names.py" > "$work/said" 2>&1; check 'other arguments are refused' [ $? = 1 ]
+echo "$passed passed, $failed failed"
+[ $failed = 0 ] && [ $passed -gt 0 ]
