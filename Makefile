@@ -113,7 +113,7 @@ scripts: $(BINARY)
 	python3 tools/model_index.py --check
 	python3 tools/options.py --check
 	python3 tools/names.py --check
-	tests/names.sh
+	tests/pages.sh
 
 # The trial build works, what it makes passes the recipes, and is neither installed nor packed.
 quick-check: $(QUICK)

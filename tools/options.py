@@ -1,6 +1,6 @@
 #!/usr/bin/env python3
 """Writes what says the program's options, commands and columns again, from the tables of crates/command_line/src/options.rt: a part of
-man/bgp_replay.1, a table of docs/USAGE.md, and the completions.
+man/bgp_replay.1, a table of docs/USAGE.md and one of README.md, and the completions.
 
     tools/options.py           writes them
     tools/options.py --check   compares with what is there; names each file that differs, and exits 1
@@ -22,7 +22,8 @@ FIELDS = {
 MAN = "man/bgp_replay.1"
 MAN_MARKS = ('.\\" options: made by tools/options.py\n', '.\\" end of options\n')
 USAGE = "docs/USAGE.md"
-USAGE_MARKS = ("<!-- options: made by tools/options.py -->\n", "<!-- end of options -->\n")
+README = "README.md"
+PAGE_MARKS = ("<!-- options: made by tools/options.py -->\n", "<!-- end of options -->\n")
 
 
 def fail(why):
@@ -209,16 +210,45 @@ def man_part(options, commands):
     return "\n".join(lines) + "\n"
 
 
-# ---- the usage page
+# ---- the usage page and the README
+
+ALWAYS = {
+    "`-h`, `--help`": "Print a help text, also without a command",
+    "`-V`, `--version`": "Print the version, and in a second line what the build recorded; also without a command",
+}
+
+
+def cell(option):
+    return f"`{' '.join(['--' + option['name'], option['value']]).strip()}`"
+
 
 def usage_part(options, _commands):
     lines = ["| Option | Commands | Meaning |", "|---|---|---|"]
     for option in options:
         owners = ", ".join(f"`{name}`" for name in owners_of(option)) or "all"
         meaning = meaning_of(option).replace("|", "\\|")
-        lines.append(f"| `{' '.join(['--' + option['name'], option['value']]).strip()}` | {owners} | {meaning} |")
-    lines.append("| `-h`, `--help` | all | Print a help text, also without a command |")
-    lines.append("| `-V`, `--version` | all | Print the version, and in a second line what the build recorded; also without a command |")
+        lines.append(f"| {cell(option)} | {owners} | {meaning} |")
+    lines += [f"| {name} | all | {meaning} |" for name, meaning in ALWAYS.items()]
+    return "\n".join(lines) + "\n"
+
+
+def short_meaning_of(option):
+    """The first sentence, and then which values there are, or what the next one says of the value."""
+    sentences = option["meaning"].split(". ")
+    if option["offered"] and option["takes"][0] == "Text":
+        others = [value for value in option["offered"].split() if value != option["default"]]
+        return f"{sentences[0]}: `{option['default']}`, the default, or {' or '.join(f'`{value}`' for value in others)}"
+    kept = ". ".join(sentences[: 2 if option["value"] else 1])
+    return meaning_of({**option, "meaning": kept})
+
+
+def readme_part(options, _commands):
+    lines = ["| Option | Meaning |", "|---|---|"]
+    for option in options:
+        owners = " and ".join(f"`{name}`" for name in owners_of(option))
+        meaning = short_meaning_of(option).replace("|", "\\|") + (f"; with {owners} alone" if owners else "")
+        lines.append(f"| {cell(option)} | {meaning} |")
+    lines += [f"| {name} | {meaning} |" for name, meaning in ALWAYS.items()]
     return "\n".join(lines) + "\n"
 
 
@@ -354,7 +384,8 @@ def main():
     tables = checked(Tables(read(SOURCE)))
     texts = {
         MAN: between(MAN, MAN_MARKS, man_part(*tables)),
-        USAGE: between(USAGE, USAGE_MARKS, usage_part(*tables)),
+        USAGE: between(USAGE, PAGE_MARKS, usage_part(*tables)),
+        README: between(README, PAGE_MARKS, readme_part(*tables)),
         "completions/bgp_replay.bash": bash(*tables),
         "completions/bgp_replay.fish": fish(*tables),
         "completions/bgp_replay.zsh": zsh(*tables),

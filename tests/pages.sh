@@ -1,6 +1,7 @@
 #!/usr/bin/env bash
-# Tries tools/names.py in a copy of the repository: as it is it passes, and each wrong name and each wrong row is named.
-#   tests/names.sh
+# Tries the tools that check pages, in a copy of the repository: what is there passes; each wrong name and each wrong row is
+# named; and a page that isn't what a tool makes is refused, and made again.
+#   tests/pages.sh
 # Needs bash, python3, tar and coreutils. The last line is `N passed, M failed`.
 set -u
 top=$(dirname "$(dirname "$(realpath "$0")")"); work=$(mktemp -d); trap 'rm -rf "$work"' EXIT
@@ -10,6 +11,21 @@ check() { local name=$1; shift; if "$@" > "$work/log" 2>&1; then passed=$((passe
 
 copy=$work/copy; mkdir "$copy"
 tar -C "$top" --exclude=.git --exclude=./bin --exclude=./dist --exclude='./crates/*/out' -cf - . | tar -C "$copy" -xf - || exit 2
+made() { # TOOL PAGE..: pages that the tool makes, each without a line of what is made, in turn
+  local tool=$1 page line; shift
+  check "$tool: the pages as they are" python3 "$copy/tools/$tool" --check
+  for page in "$@"; do
+    cp "$copy/$page" "$work/before"
+    line=$(grep -nm 1 '^| .--until TIME\|--until|.*return\|-l until \|--until\[\|^- .is_selected' "$copy/$page" | cut -d : -f 1)
+    check "$tool: a line of $page" sed -i "${line:-none}d" "$copy/$page"
+    python3 "$copy/tools/$tool" --check > "$work/said" 2>&1; check "$tool: $page without a line" [ $? = 1 ]
+    check "$tool: it names $page" grep -qF "$page" "$work/said"
+    check "$tool: it makes $page" python3 "$copy/tools/$tool"; check "$tool: as it was: $page" cmp "$work/before" "$copy/$page"
+  done
+}
+made options.py README.md docs/USAGE.md completions/bgp_replay.{bash,fish,zsh}
+made model_index.py docs/DEFINITIONS.md
+
 names() { python3 "$copy/tools/names.py" --check > "$work/said" 2>&1; }
 names; check 'the repository as it is: status' [ $? = 0 ]
 check 'the repository as it is: nothing is said' cmp "$work/said" /dev/null
