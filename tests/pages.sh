@@ -42,6 +42,10 @@ plant docs/MODEL.md 'Nor is `Units::gone`, while `Units::lend` is.' 'Units::gone
 plant docs/USAGE.md 'No option is `--gone`, and no command `bgp_replay gone rib.mrt`.' --gone 'bgp_replay gone rib.mrt'
 plant docs/PROOFS.md 'No file is `mrt_body/specs/Gone.antt`, nor `tests/gone.sh`, while `mrt_body/specs/Units.antt` is.' mrt_body/specs/Gone.antt tests/gone.sh
 plant docs/PROOFS.md 'No edit is `takes-what-is-gone`.' takes-what-is-gone
+plant docs/PROOFS.md '| a claim | `run`: `promised`, `gone_clause`; `IsSummary`: `rounds`, `gone_field`; `adj_rib`: `one_route_per_prefix` |' \
+  gone_clause gone_field
+wanted+=("${wanted[-2]}" "${wanted[-1]}") # as no names, and as no parts
+plant docs/PROOFS.md '| a claim | `mrt_frame`: `one_route_per_prefix`; `parse`: `gives.first` |' one_route_per_prefix gives.first
 plant README.md 'No target is `make gone`, and `rt gone` no command.' 'make gone' 'rt gone'
 plant CONTRIBUTING.md $'A name may go on in the next line: `fn\n  gone_on`.' 'fn gone_on'
 plant CONTRIBUTING.md $'An example names what it likes:\n\n    $ bgp_replay `gone_example`'

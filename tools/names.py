@@ -6,8 +6,9 @@
 What stands in backticks in docs/*.md, README.md, CONTRIBUTING.md and the comments of crates/*/src and crates/*/specs
 has to exist: a file; an option, a command or a target of make; `Type::member`; an edit or a row of a test; or a name
 that code, definitions or proofs declare. In a comment that is one of its file, of its crate, of the crates below, or of
-a crate that the comment names. And each source file of a library or of the program has to stand in exactly one row of
-the tables of files in docs/ARCHITECTURE.md.
+a crate that the comment names. What a row of docs/PROOFS.md says behind a name and a colon has to be a part of that: a
+clause of a function, a field of a definition, an edit of a crate. And each source file of a library or of the program
+has to stand in exactly one row of the tables of files in docs/ARCHITECTURE.md.
 
 Needs python3 alone.
 """
@@ -19,6 +20,7 @@ from collections import defaultdict
 
 TOP = os.path.dirname(os.path.dirname(os.path.abspath(__file__)))
 ARCHITECTURE = "docs/ARCHITECTURE.md"
+PROOFS = "docs/PROOFS.md"
 OPTIONS = "crates/command_line/src/options.rt"
 # In each crate the same: ARCHITECTURE says once what they have.
 IN_EACH_CRATE = ("lib.rt", "laws.rt")
@@ -82,7 +84,9 @@ ITEM = re.compile(r"\b(?:fn|struct|enum|trait|type|const|static|mod|macro_rules!
 FIELD_OR_PARAMETER = re.compile(r"\b(%s): " % NAME)
 VARIANT = re.compile(r"^    ([A-Z][A-Za-z0-9]*)(?=[,({ ]|$)", re.M)
 USED = re.compile(r"^\s*(?:pub )?(?:ghost )?use ([^;]*);", re.M)
-BLOCK = re.compile(r"^(?:pub )?(?:struct|enum|trait|impl)\b[^{;]*(?:;|\{[^\n]*\}$|\{.*?^\})", re.M | re.S)
+BLOCK = re.compile(
+    r"^(?:pub(?:\([a-z]+\))? )?(?:struct|enum|trait|impl)\b[^{;]*(?:;|\{[^\n]*\}$|\{.*?^\})", re.M | re.S
+)
 MEMBER = re.compile(r"^    (?:pub(?:\([a-z]+\))? )?(?:(?:const |unsafe )?fn |const |type |ghost )?(%s)\b" % NAME, re.M)
 DEFINITION = re.compile(
     r"^\s*(?:(?:abbrev|unfoldable|opaque|pub|record|data|mod) )*([^\s(){}:]+)(?= (?:[:({]|.* = |where))"
@@ -90,6 +94,9 @@ DEFINITION = re.compile(
     re.M,
 )
 DEFINITION_COMMENT = re.compile(r"(?:^|(?<=\s))--(?:\s[^\n]*)?$", re.M)
+RECORD = re.compile(r"^( *)pub record (\w+)(.*?)(?=^\1\S|\Z)", re.M | re.S)
+RECORD_FIELD = re.compile(r"^\s+pub (\w+) :", re.M)
+LABEL = re.compile(r"\b(?:ensures|requires|ghost)\s+(\w+)")
 TEXT = re.compile(r'"((?:[^"\\]|\\.)*)"')
 PRINTING = re.compile(r"crates/(command_line|replay_io|bgp_replay|rib_report|packed_io|mrt_replay)/src/")
 PYTHON_NAME = re.compile(r"\b(?:def|class) (%s)|\b(%s)(?=[:=]| = )|[\"'](%s)[\"']" % (NAME, NAME, NAME))
@@ -131,8 +138,8 @@ def without_brackets(text):
 
 class Repository:
     """What there is to be named: `files` and `folders`; `names`, what each crate declares; `words`, those of each
-    source file; `members` of each type and trait; `rows`, the names of edits and of rows of tests; and what is known
-    everywhere."""
+    source file; `members` of each type and trait; `parts`: the clauses of a function, the fields of a definition, the
+    edits of a crate; `rows`, the names of edits and of rows of tests; and what is known everywhere."""
 
     def __init__(self):
         self.files = files_of_repository()
@@ -140,7 +147,7 @@ class Repository:
         self.folders = {name.rsplit("/", depth)[0] for name, depth in depths}
         self.below = self.dependencies()
         self.names, self.members, self.traits = defaultdict(set), defaultdict(set), defaultdict(set)
-        self.words, self.rows = {}, set()
+        self.words, self.rows, self.parts = {}, set(), defaultdict(set)
         for name in self.files:
             if name.startswith("crates/") and name.count("/") > 1:
                 self.take(name, name.split("/")[1])
@@ -169,6 +176,8 @@ class Repository:
             text = read(name)
             self.names[crate] |= declared_in_definitions(text)
             self.words[name] = set(re.split(r"[\s(){}.,;:]+", DEFINITION_COMMENT.sub("", text)))
+            for _, record, fields in RECORD.findall(text):
+                self.parts[record].update(RECORD_FIELD.findall(fields))
         elif name.endswith(".rt"):
             text = read(name)
             code = code_of(text)
@@ -176,19 +185,23 @@ class Repository:
             self.words[name] = words(code).union(*map(words, TEXT.findall(text)))
             for block in BLOCK.findall(code):
                 self.take_block(block)
+            for function in re.split(r"\bfn (?=\w)", code)[1:]:
+                self.parts[re.match(r"\w+", function).group()].update(LABEL.findall(function))
             if crate.endswith("_tests"):
                 self.rows |= set(re.findall(r"[a-z0-9]+(?:-[a-z0-9]+)+", text))
         elif name.endswith(".edit"):
             self.rows.add(os.path.splitext(os.path.basename(name))[0])
+            self.parts[crate].add(os.path.splitext(os.path.basename(name))[0])
 
     def take_block(self, block):
         head, _, body = block.partition("{")
         head = without_brackets(head).split(" where")[0]
-        owners = re.findall(NAME, head.replace("dyn ", ""))[1:]
-        owners = [owner for owner in owners if owner not in ("pub", "struct", "enum", "trait", "for", "where")]
+        owners = re.findall(NAME, head)
+        owners = [owner for owner in owners if owner not in "pub crate struct enum trait impl for dyn".split()]
         members = set(MEMBER.findall("{" + body))
         for owner in owners[:2]:
             self.members[owner] |= members
+            self.parts[owner].update(LABEL.findall(body))
         if len(owners) > 1 and " for " in head:
             self.traits[owners[1]].add(owners[0])
 
@@ -390,6 +403,19 @@ def wrong_names(repository):
         yield f"tools/names.py: {name}: in AWAITED, and no longer wrong"
 
 
+# ---- the rows of PROOFS
+
+CLAIMED = re.compile(r"`([\w:]+)`: ((?:`[a-z0-9_.]+`(?:, | and )?)+)")
+
+
+def wrong_claims(repository):
+    for number, line in enumerate(read(PROOFS).splitlines(), 1):
+        for owner, parts in CLAIMED.findall(line if line.startswith("|") else ""):
+            for part in re.findall("`([^`]+)`", parts):
+                if part.split(".")[0] not in repository.parts[owner.split("::")[-1]]:
+                    yield f"{PROOFS}:{number}: {part}: no clause, field or edit of {owner}"
+
+
 # ---- the rows of ARCHITECTURE
 
 def rows(text):
@@ -439,7 +465,7 @@ def main():
     if sys.argv[1:] != ["--check"]:
         fail("usage: tools/names.py --check")
     repository = Repository()
-    wrong = [*wrong_names(repository), *wrong_rows(repository)]
+    wrong = [*wrong_names(repository), *wrong_claims(repository), *wrong_rows(repository)]
     for line in wrong:
         print(line)
     sys.exit(1 if wrong else 0)

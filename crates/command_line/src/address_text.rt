@@ -10,7 +10,7 @@ use crate::ipv6::ipv6_in;
 use bgp_prefix::Ipv6;
 use bgp_update::Unicast;
 
-/// What is said of texts that are no prefix of a family.
+/// Messages about texts that are no prefix of a family.
 #[derive(Clone, Copy)]
 pub struct PrefixWords {
     /// A prefix of it, for whoever wrote a text that is none.
@@ -47,7 +47,7 @@ pub trait AddressText: Unicast {
     /// Which family it is.
     const FAMILY: AddressFamily;
 
-    /// What is said of texts that are no prefix of it.
+    /// Messages about texts that are no prefix of it.
     const WORDS: PrefixWords;
 
     /// Returns the address that a text spells. Returns `None` for any other text.

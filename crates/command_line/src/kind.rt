@@ -1,4 +1,4 @@
-//! What a file that is not an MRT dump is, judged by its first bytes.
+//! The kinds of files that are no MRT dumps, by their first bytes.
 
 ghost use Rattle.std.specs.Prelude.{◌≤◌};
 

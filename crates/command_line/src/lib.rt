@@ -5,14 +5,14 @@
 //! what is reported as a bad address. What else the arguments mean is tested (`command_tests`) and not stated.
 //!
 //! - Options, commands and columns stand in the tables of `options`, and what they say in words is made from these:
-//!   help here, manual page, usage page and completions by `tools/options.py`. A new option is a row there, and its
-//!   reading.
+//!   help here; manual page, README, usage page and completions by `tools/options.py`. A new option is a row there, and
+//!   its reading.
 //! - `clap` doesn't break lines: `wrapped` breaks those of a help, at the width that the program gives it.
 //! - `--version` has a second line, which stands in the program as 128 bytes, `@build:`, 120 bytes and `@`. They are
 //!   read character by character when the line is asked for, so that a build can replace them in the program that it
 //!   built.
-//! - It is a library, since a function of the program can't be called by a test. `Request` is with the reports, in
-//!   `rib_report`, since this crate and `mrt_replay` need it and neither needs the other.
+//! - It is a library, since a function of the program can't be called by a test. `Request` is in `report_request`,
+//!   since this crate and `rib_report` need it and neither needs the other.
 //! - `--workers` defaults to one worker per processor, which arguments alone don't know: `read_words` returns 4 and
 //!   whether the arguments said so.
 //! - `--until` takes seconds, a date, or RFC 3339, which `jiff` parses. A date and time without an offset from UTC is

@@ -107,6 +107,7 @@ impl<F: Unicast, D: Dealing> Dealer<D, Prefix<F>, FamilyMark<F>> {
     fn is_counted(&self)
         ensures { self.now.dealt ≡ min (self.now.dealt + 0) (2 ^ 64 - 1) }
     {
+        // A hint for the proof: what holds of the count is known once it is read.
         let _dealt = self.dealt;
     }
 

@@ -67,6 +67,7 @@ impl<F: Unicast, S: Sessions<Addr = F>> Worker<S, Prefix<F>, FamilyMark<F>> {
     ) -> Result<(), Memory>
         ensures { OnOk result (Took S.stands_for self.old self.new (known_items self.old.consumer)) }
     {
+        // A hint for the proof: what holds of the count is known once it is read.
         let _taken = self.taken;
         while self.consumer.cached_slots() > 0 {
             self.take_list(alloc, gate, batch)?;
@@ -115,6 +116,7 @@ impl<F: Unicast, S: Sessions<Addr = F>> Worker<S, Prefix<F>, FamilyMark<F>> {
         ensures none { result ≡ Ok false → received self.new.consumer ≡ received self.old.consumer }
         ensures some { result ≡ Ok true → length (received self.old.consumer) < length (received self.new.consumer) }
     {
+        // A hint for the proof: what holds of the count is known once it is read.
         let _taken = self.taken;
         if self.consumer.is_empty() {
             return Ok(false);

@@ -1,5 +1,5 @@
-//! What is remarkable about the records of files, beside the units that they give. It changes none of these, and
-//! nothing is proved of it but that it is safe to look for.
+//! Remarks on the records of files, for notes. No unit depends on them, and nothing is proved of them but that making
+//! them is safe.
 
 use crate::rib::ListedEntry;
 use bgp_update::Unicast;

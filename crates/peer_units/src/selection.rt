@@ -180,11 +180,12 @@ impl<F: Unicast> Selection<F> {
         self
     }
 
-    /// A selection is of no other family than that of its type.
+    /// A selection is of no other family than that of its type. Does nothing.
     #[inline(always)]
     pub fn is_known(&self)
         ensures { self.now.family ≡ F.family }
     {
+        // A hint for the proof: what holds of a selection is known once it is read.
         let _until = self.until;
     }
 

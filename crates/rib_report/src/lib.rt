@@ -1,4 +1,4 @@
-//! Eight reports over the tables of all peers, and their lines.
+//! Nine reports over the tables of all peers, and their lines.
 //!
 //! A report is a function from tables to rows, stated over whole lists and sets; a line is a function of a row. Laws
 //! state the rows without an order of work, and tables that stand for units have the reports that are defined over

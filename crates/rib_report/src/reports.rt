@@ -1,4 +1,4 @@
-//! The eight reports, by the names that users know.
+//! The nine reports, by the names that users know.
 
 pub(crate) mod churn;
 pub(crate) mod faults;
