@@ -1,13 +1,15 @@
 #!/usr/bin/env bash
-# Tries the tools that check pages, in a copy of the repository: what is there passes; each wrong name and each wrong row is
-# named; and a page that isn't what a tool makes is refused, and made again.
+# Tries the tools that check pages, in a copy of the repository: what is there passes; each wrong name and each wrong
+# row is named; and a page that isn't what a tool makes is refused, and made again.
 #   tests/pages.sh
 # Needs bash, python3, tar and coreutils. The last line is `N passed, M failed`.
 set -u
 top=$(dirname "$(dirname "$(realpath "$0")")"); work=$(mktemp -d); trap 'rm -rf "$work"' EXIT
 export LC_ALL=C.UTF-8
 passed=0; failed=0
-check() { local name=$1; shift; if "$@" > "$work/log" 2>&1; then passed=$((passed + 1)); else failed=$((failed + 1)); echo "wrong: $name"; head -n 5 "$work/log" | sed 's/^/  /'; fi; }
+right() { passed=$((passed + 1)); }
+wrong() { failed=$((failed + 1)); echo "wrong: $1"; head -n 5 "$work/log" | sed 's/^/  /'; }
+check() { local name=$1; shift; if "$@" > "$work/log" 2>&1; then right; else wrong "$name"; fi; }
 
 copy=$work/copy; mkdir "$copy"
 tar -C "$top" --exclude=.git --exclude=./bin --exclude=./dist --exclude='./crates/*/out' -cf - . | tar -C "$copy" -xf - || exit 2
@@ -45,7 +47,8 @@ plant docs/PROOFS.md 'No edit is `takes-what-is-gone`.' takes-what-is-gone
 plant docs/PROOFS.md '| a claim | `run`: `promised`, `gone_clause`; `IsSummary`: `rounds`, `gone_field`; `adj_rib`: `one_route_per_prefix` |' \
   gone_clause gone_field
 wanted+=("${wanted[-2]}" "${wanted[-1]}") # as no names, and as no parts
-plant docs/PROOFS.md '| a claim | `mrt_frame`: `one_route_per_prefix`; `parse`: `gives.first` |' one_route_per_prefix gives.first
+plant docs/PROOFS.md '| a claim | `mrt_frame`: `one_route_per_prefix`; `parse`: `gives.first`; `next`: `gives.gone`, `gives.cause` |' \
+  one_route_per_prefix gives.first gives.gone gives.cause
 plant README.md 'No target is `make gone`, and `rt gone` no command.' 'make gone' 'rt gone'
 plant CONTRIBUTING.md $'A name may go on in the next line: `fn\n  gone_on`.' 'fn gone_on'
 plant CONTRIBUTING.md $'An example names what it likes:\n\n    $ bgp_replay `gone_example`'

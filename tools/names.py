@@ -97,6 +97,7 @@ DEFINITION_COMMENT = re.compile(r"(?:^|(?<=\s))--(?:\s[^\n]*)?$", re.M)
 RECORD = re.compile(r"^( *)pub record (\w+)(.*?)(?=^\1\S|\Z)", re.M | re.S)
 RECORD_FIELD = re.compile(r"^\s+pub (\w+) :", re.M)
 LABEL = re.compile(r"\b(?:ensures|requires|ghost)\s+(\w+)")
+CLAUSE = re.compile(r"\bensures\s+(\w+)\s+\{(.*?)\}\s*(?=ensures|requires|\{|;|\n\n)", re.S)
 TEXT = re.compile(r'"((?:[^"\\]|\\.)*)"')
 PRINTING = re.compile(r"crates/(command_line|replay_io|bgp_replay|rib_report|packed_io|mrt_replay)/src/")
 PYTHON_NAME = re.compile(r"\b(?:def|class) (%s)|\b(%s)(?=[:=]| = )|[\"'](%s)[\"']" % (NAME, NAME, NAME))
@@ -139,7 +140,8 @@ def without_brackets(text):
 class Repository:
     """What there is to be named: `files` and `folders`; `names`, what each crate declares; `words`, those of each
     source file; `members` of each type and trait; `parts`: the clauses of a function, the fields of a definition, the
-    edits of a crate; `rows`, the names of edits and of rows of tests; and what is known everywhere."""
+    edits of a crate; `cited`, the definitions that a clause of a function names; `rows`, the names of edits and of rows
+    of tests; and what is known everywhere."""
 
     def __init__(self):
         self.files = files_of_repository()
@@ -147,7 +149,7 @@ class Repository:
         self.folders = {name.rsplit("/", depth)[0] for name, depth in depths}
         self.below = self.dependencies()
         self.names, self.members, self.traits = defaultdict(set), defaultdict(set), defaultdict(set)
-        self.words, self.rows, self.parts = {}, set(), defaultdict(set)
+        self.words, self.rows, self.parts, self.cited = {}, set(), defaultdict(set), defaultdict(set)
         for name in self.files:
             if name.startswith("crates/") and name.count("/") > 1:
                 self.take(name, name.split("/")[1])
@@ -186,7 +188,10 @@ class Repository:
             for block in BLOCK.findall(code):
                 self.take_block(block)
             for function in re.split(r"\bfn (?=\w)", code)[1:]:
-                self.parts[re.match(r"\w+", function).group()].update(LABEL.findall(function))
+                owner = re.match(r"\w+", function).group()
+                self.parts[owner].update(LABEL.findall(function))
+                for label, clause in CLAUSE.findall(function):
+                    self.cited[owner, label].update(re.findall(r"\b[A-Z]\w+", clause))
             if crate.endswith("_tests"):
                 self.rows |= set(re.findall(r"[a-z0-9]+(?:-[a-z0-9]+)+", text))
         elif name.endswith(".edit"):
@@ -223,6 +228,12 @@ class Repository:
         """The names that a comment of a file may say: those of its file, of its crate and of the crates below."""
         crates = [self.names[other] for other in [crate, *self.below.get(crate, [])]]
         return set().union(self.everywhere, self.words[name], self.rows if crate.endswith("_tests") else (), *crates)
+
+    def has_part(self, owner, part):
+        """Whether a clause, a field or an edit is one of this; `gives.first` is a field of what the clause cites."""
+        label, _, field = part.partition(".")
+        fields = set().union(*(self.parts[definition] for definition in self.cited[owner, label]))
+        return label in self.parts[owner] and (not field or field in fields)
 
     def has_member(self, owner, member):
         return member in self.members[owner] or any(member in self.members[trait] for trait in self.traits[owner])
@@ -412,7 +423,7 @@ def wrong_claims(repository):
     for number, line in enumerate(read(PROOFS).splitlines(), 1):
         for owner, parts in CLAIMED.findall(line if line.startswith("|") else ""):
             for part in re.findall("`([^`]+)`", parts):
-                if part.split(".")[0] not in repository.parts[owner.split("::")[-1]]:
+                if not repository.has_part(owner.split("::")[-1], part):
                     yield f"{PROOFS}:{number}: {part}: no clause, field or edit of {owner}"
 
 
