@@ -12,7 +12,7 @@ wrong() { failed=$((failed + 1)); echo "wrong: $1"; head -n 5 "$work/log" | sed 
 check() { local name=$1; shift; if "$@" > "$work/log" 2>&1; then right; else wrong "$name"; fi; }
 
 copy=$work/copy; mkdir "$copy"
-tar -C "$top" --exclude=.git --exclude=./bin --exclude=./dist --exclude='./crates/*/out' -cf - . | tar -C "$copy" -xf - || exit 2
+tar -C "$top" --exclude=.git --exclude=./bin --exclude=./dist --exclude=out --exclude=__pycache__ -cf - . | tar -C "$copy" -xf - || exit 2
 made() { # TOOL PAGE..: pages that the tool makes, each without a line of what is made, in turn
   local tool=$1 page line; shift
   check "$tool: the pages as they are" python3 "$copy/tools/$tool" --check

@@ -1,5 +1,5 @@
-//! What is remarkable about the dumps of a complete run, on standard error: what they are likely not meant to be. A
-//! note is a line that begins with two spaces and `note: `; no report and no status depends on it.
+//! Notes on the dumps of a complete run, on standard error: what about them is likely not meant. A note is a line that
+//! begins with two spaces and `note: `; no report and no status depends on it.
 
 use command_line::{AddressFamily, FileName};
 use mrt_body::Marked;

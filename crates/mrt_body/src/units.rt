@@ -194,7 +194,7 @@ impl<F: Unicast> Units<F> {
         }
     }
 
-    /// What is selected is of no other family than that of the type.
+    /// The selection is of the type's family.
     #[inline(always)]
     fn is_known(&self)
         ensures { self.now.selection.family ≡ F.family }

@@ -48,9 +48,9 @@ pub fn event<F: Unicast>(
     alloc: Global,
     payload: &PayloadOf<F>,
 ) -> Result<Event<Prefix<F>>, AttrError>
-    // What is returned is what the payload means.
+    // The event that is returned is the payload's meaning.
     ensures found { IfOk result (IsEvent payload.now) }
-    // What it means is returned, unless memory runs out.
+    // A meaning of the payload is returned, unless memory runs out.
     ensures only { (e : Event IpPrefix) → IsEvent payload.now e → Gives (λ e. e) result (Ok e) }
     // Which fault it is.
     ensures exact { Gives (λ e. e) result (event_in payload.now) }
