@@ -55,6 +55,9 @@ plant CONTRIBUTING.md $'An example names what it likes:\n\n    $ bgp_replay `gon
 plant crates/mrt_frame/src/header.rt '// `gone_header` is in no crate, and `ChunkedMap` is in one above.' gone_header ChunkedMap
 plant crates/mrt_frame/src/header.rt '// `ChunkedMap` of `chunked_map` is named with its crate, and `"gone_text"` is a text; `gone_local` is nothing.' gone_local
 plant crates/mrt_frame/specs/Cuts.antt '-- no definition is `gone_cut`' gone_cut
+row=$(grep -n '^| `run_io` |' "$copy/docs/ARCHITECTURE.md" | cut -d : -f 1)
+sed -i "${row}s/run_io/gone_io/" "$copy/docs/ARCHITECTURE.md"
+wanted+=('docs/ARCHITECTURE.md:1: run_io' 'docs/ARCHITECTURE.md:1: gone_io' "docs/ARCHITECTURE.md:$row: gone_io")
 touch "$copy/crates/mrt_frame/src/unlisted.rt"; wanted+=('docs/ARCHITECTURE.md:1: crates/mrt_frame/src/unlisted.rt')
 row=$(grep -n '^| `field.rt` | fields' "$copy/docs/ARCHITECTURE.md" | cut -d : -f 1)
 sed -i "${row}a | \`field.rt\`, \`gone.rt\`, \`lib.rt\` | a second row |" "$copy/docs/ARCHITECTURE.md"; row=$((row + 1))

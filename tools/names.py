@@ -8,7 +8,7 @@ has to exist: a file; an option, a command or a target of make; `Type::member`; 
 that code, definitions or proofs declare. In a comment that is one of its file, of its crate, of the crates below, or of
 a crate that the comment names. What a row of docs/PROOFS.md says behind a name and a colon has to be a part of that: a
 clause of a function, a field of a definition, an edit of a crate. And each source file of a library or of the program
-has to stand in exactly one row of the tables of files in docs/ARCHITECTURE.md.
+has to stand in exactly one row of the tables of files in docs/ARCHITECTURE.md, and each crate in one of that of crates.
 
 Needs python3 alone.
 """
@@ -452,6 +452,14 @@ def row_files(crate, cell):
         yield f"crates/{crate}/src/{inner}{os.path.basename(name)}"
 
 
+def wrong_crates(repository):
+    listed = re.findall(r"^\| `(\w+)` \|", read(ARCHITECTURE), re.M)
+    for crate in sorted(set(listed) | set(repository.below)):
+        if listed.count(crate) != 1 or crate not in repository.below:
+            where = "in crates.txt" if crate in repository.below else "not in crates.txt"
+            yield f"{ARCHITECTURE}:1: {crate}: {where}, and in {listed.count(crate)} rows of the table of crates"
+
+
 def wrong_rows(repository):
     found = defaultdict(list)
     for line, files in rows(read(ARCHITECTURE)):
@@ -476,7 +484,8 @@ def main():
     if sys.argv[1:] != ["--check"]:
         fail("usage: tools/names.py --check")
     repository = Repository()
-    wrong = [*wrong_names(repository), *wrong_claims(repository), *wrong_rows(repository)]
+    checks = (wrong_names, wrong_claims, wrong_crates, wrong_rows)
+    wrong = [line for check in checks for line in check(repository)]
     for line in wrong:
         print(line)
     sys.exit(1 if wrong else 0)
