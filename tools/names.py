@@ -35,7 +35,7 @@ OUTSIDE = {
     "names of the environment": "PATH PYTHONPATH BGP_REPLAY GLIBC_TUNABLES DASK_DISTRIBUTED__WORKER__PROFILE__INTERVAL",
     "the toolchain, and what `rt` prints": "dac8208d650f15bf rattle-kit-13f proves",
     "a template of `rt new`, and what it leaves": "start_lib BUILD.bazel",
-    "options of `rt` and of tools": "--only --test --check",
+    "options of `rt`": "--only --test",
     "endings of names": "_in _at _bytes",
     "functions of mathematics and of pandas": "ceil astype",
 }
@@ -53,7 +53,6 @@ AWAITED = {
 
 NAME = r"[A-Za-z_][A-Za-z0-9_]*"
 PATH_CHARACTERS = re.compile(r"[A-Za-z0-9_.*/-]+")
-ENDINGS = "rt antt md py sh c rs rattle mrt txt edit bz2 gz".split()
 
 
 def fail(why):
@@ -155,10 +154,14 @@ class Repository:
                 self.take(name, name.split("/")[1])
         options, makefile = read(OPTIONS), read("Makefile")
         self.options = {"help", "version", *re.findall(r'^        name: "([a-z-]+)",\n        value', options, re.M)}
+        for name in self.files:
+            if name.startswith(("python/", "tools/")) and name.endswith(".py"):
+                self.options.update(re.findall(r"[\"']--([a-z][a-z-]*)[\"']", read(name)))
         self.commands = set(re.findall(r'^        name: "([a-z]+)",\n        meaning', options, re.M))
         self.targets = set(re.findall(r"^([a-z-]+):", makefile, re.M))
         self.outside = {word for text in OUTSIDE.values() for word in text.split()}
         bases = {os.path.basename(name) for name in self.files}
+        self.endings = {os.path.splitext(name)[1] for name in bases} - {""} | {".bz2", ".gz"}
         self.everywhere = set().union(
             self.said_by_programs(), self.outside, self.below, self.commands, self.options, bases,
             {os.path.splitext(name)[0] for name in bases}, re.findall(r"^([A-Z]+) \??:?=", makefile, re.M),
@@ -387,8 +390,8 @@ def fault(repository, span, place):
         where = f" in {place.crate} or below it" if place.crate else ""
         return None if span in place.known else "no such name" + where
     if PATH_CHARACTERS.fullmatch(span) and not span.startswith("-"):
-        ending = span.rsplit(".", 1)[-1] if "." in os.path.basename(span) else ""
-        if ending in ENDINGS or ("/" in span and not ending):
+        ending = os.path.splitext(span)[1]
+        if ending in repository.endings or ("/" in span and not ending):
             return file_fault(repository, span, place.crate)
         if re.fullmatch(r"[a-z0-9_]+(-[A-Za-z0-9_]+)+", span):
             return None if span in place.known else "no such name"
