@@ -22,7 +22,7 @@ TOP = os.path.dirname(os.path.dirname(os.path.abspath(__file__)))
 ARCHITECTURE = "docs/ARCHITECTURE.md"
 PROOFS = "docs/PROOFS.md"
 OPTIONS = "crates/command_line/src/options.rt"
-# In each crate the same: ARCHITECTURE says once what they have.
+# In each crate the same: ARCHITECTURE says once what they have, and they need no row.
 IN_EACH_CRATE = ("lib.rt", "laws.rt")
 # What a build makes, and no file of the repository.
 MADE = ("out", "bin", "dist")
@@ -471,8 +471,6 @@ def wrong_rows(repository):
     for name in sorted(found):
         if name not in repository.files:
             yield f"{ARCHITECTURE}:{found[name][0]}: {name}: no such file"
-        elif os.path.basename(name) in IN_EACH_CRATE:
-            yield f"{ARCHITECTURE}:{found[name][0]}: {name}: it is what it is in each crate, and has no row"
         for line in found[name][1:]:
             yield f"{ARCHITECTURE}:{line}: {name}: it has a row in line {found[name][0]}"
     in_tables = {name.split("/")[1] for name in found}
