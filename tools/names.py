@@ -45,11 +45,8 @@ EXCEPTIONS = {
     "rib.mrt": "what the examples of the pages call examples/sample.mrt",
     "bgp_replay_bench": "the repository of copies that bench/*.sh make",
 }
-# What is wrong in files that are being changed elsewhere: each goes with that change.
-AWAITED = {
-    "crates/bgp_update/src/attribute_type.rt: with_unreached": "the readers of attributes are being written anew",
-    "crates/bgp_update/src/short_bytes.rt: Arc": "the bytes have one owner now",
-}
+# What is wrong, and waits for a change that mends it: `FILE: NAME` and why.
+AWAITED = {}
 
 NAME = r"[A-Za-z_][A-Za-z0-9_]*"
 PATH_CHARACTERS = re.compile(r"[A-Za-z0-9_.*/-]+")

@@ -1,4 +1,4 @@
-//! The types of path attributes that are looked at. `attribute.rt` has the check of each type's value (`value_fault`)
+//! The types of path attributes that are looked at. `attribute.rt` has the check of each type's value (`head_fault`)
 //! and which repeats are refused; `values.rt` keeps the first value of each type; `route_fields.rt` reads a route's
 //! fields from these (`route_from`), and `multiprotocol.rt` the keys of MP_REACH_NLRI and MP_UNREACH_NLRI.
 
@@ -24,9 +24,9 @@ pub enum AttributeType {
     AtomicAggregate = 6,
     /// AGGREGATOR (RFC 4271, 5.1.7), read by `aggregator_of`.
     Aggregator = 7,
-    /// MP_REACH_NLRI (RFC 4760, 3), read by `reached`.
+    /// MP_REACH_NLRI (RFC 4760, 3), read by `reach_in`.
     MpReachNlri = 14,
-    /// MP_UNREACH_NLRI (RFC 4760, 4), read by `with_unreached`.
+    /// MP_UNREACH_NLRI (RFC 4760, 4), read by `unreach_in`.
     MpUnreachNlri = 15,
     /// AS4_PATH (RFC 6793, 3), read by `as4_path_value`: nothing is wrong with any value.
     As4Path = 17,

@@ -45,6 +45,7 @@ impl<F: Unicast> FamilyMark<F> {
     pub fn is_known(&self)
         ensures { self.now ≡ F.family }
     {
+        // A hint for the proof: what a mark tells is known once it is read.
         let _of = self.of;
     }
 }

@@ -211,9 +211,9 @@ fn whole_route<F: Unicast>(alloc: Global, bytes: &[u8], width: Width) -> Result<
 /// MP_REACH_NLRI where NEXT_HOP is of the family; elsewhere the first one gives the next hop. `Bad` has the first fault
 /// from left to right.
 pub fn read_attrs<F: Unicast>(alloc: Global, bytes: &[u8], width: Width) -> Result<Route, AttrError>
-    // What is read is encoded in this way.
+    // The bytes encode the route that is returned.
     ensures found { IfOk result (ReadsAsRoute F.family width bytes.now) }
-    // What is encoded in this way is read, unless memory runs out.
+    // The route that the bytes encode is returned, unless memory runs out.
     ensures only { (route : Route) → ReadsAsRoute F.family width bytes.now route → Gives (λ r. r) result (Ok route) }
     // Which fault it is.
     ensures exact { Gives (λ r. r) result (route_in F.family width bytes.now) }
