@@ -11,7 +11,7 @@ prefixes (one or several, as `192.0.2.0/24+`), peers (a list of AS or (AS, addre
 of `reports.OPTIONS`. `bgp_replay.collectors` has reports of many collectors, `bgp_replay.plots` pictures.
 """
 
-from .errors import DamagedError, DamagedWarning, OpenError, ReplayError, UnpackError, UsageError
+from .errors import DamagedError, DamagedWarning, NoteWarning, OpenError, ReplayError, UnpackError, UsageError
 from .run import (Replay, churn, faults, has, history, match, origins, peers, program, seen, summary, tables,
                   visibility)
 from .series import GapError, series

@@ -10,24 +10,26 @@ import concurrent.futures
 import dataclasses
 import os
 import socket
+import warnings
 
 import numpy
 import pandas
 
 from . import frames, run
-from .errors import ReplayError, UnpackError
-from .reports import OPTIONS, REPORTS, names_of
+from .errors import NoteWarning, ReplayError, UnpackError
+from .reports import REPORTS, names_of
 
 AT_ONCE = 8  # parts that are merged by one task
 
 
 @dataclasses.dataclass
 class Part:
-    """Of some collectors: a report (None: of none of them), its peers' places, the summaries, and what failed."""
+    """Of some collectors: a report (None: of none), its peers' places, the summaries, notes, and what failed."""
 
     frame: object = None
     places: object = None
     summaries: dict = dataclasses.field(default_factory=dict)
+    notes: dict = dataclasses.field(default_factory=dict)
     failed: dict = dataclasses.field(default_factory=dict)
 
 
@@ -49,12 +51,15 @@ class _Ask:
 
 
 class _Replay(run.Replay):
-    """A run that fails where a packed file ends early, whether the program or this package unpacks it."""
+    """A run that fails where a packed file ends early, whoever unpacks it, and leaves its notes to the caller."""
 
     def _tell_damage(self):
         if self.cut:
             raise UnpackError("\n  ".join(["unpacking failed", *self.cut]), 1)
         super()._tell_damage()
+
+    def _tell_notes(self):
+        pass
 
 
 def _replayed(ask, name, files, number, is_placed=True):
@@ -64,18 +69,14 @@ def _replayed(ask, name, files, number, is_placed=True):
         replay = _Replay(ask.run(), files, **options)
         frame, places = replay.frame(), None
         if is_placed and ask.shares > 1 and REPORTS[ask.report].is_by_peer:
-            places = frame if ask.report == "peers" else run.peers(files, **_of_peers(options))
+            places = frame if ask.report == "peers" else _Replay("peers", files, **run.of_peers(options)).frame()
     except ReplayError as error:
         error.collector = name
         if ask.errors == "raise":
             raise
         return Part(failed={name: error})
-    return Part(_counts(frame) if REPORTS[ask.run()].merge == "sum" else frame, places, {name: [replay.summary]})
-
-
-def _of_peers(options):
-    """Those of a report's options that `peers` has too: the others don't choose units."""
-    return {name: value for name, value in options.items() if name not in OPTIONS or run.has("peers", OPTIONS[name][0])}
+    frame = _counts(frame) if REPORTS[ask.run()].merge == "sum" else frame
+    return Part(frame, places, {name: [replay.summary]}, {name: replay.notes})
 
 
 def _counts(frame):
@@ -128,14 +129,15 @@ def _together(ask, name, *shares):
     if failed:
         return Part(failed=failed)
     merge, parts = REPORTS[ask.run()].merge, [part.frame for part in shares]
+    told = _lists(part.summaries for part in shares), _lists(part.notes for part in shares)
     if merge == "sum":
-        return Part(_summed(parts) if len(parts) > 1 else parts[0], None, _summaries(shares))
+        return Part(_summed(parts) if len(parts) > 1 else parts[0], None, *told)
     frame = frames.joined(parts)
     if len(parts) > 1 and merge == "list":
         frame = _one_list(frame)
     elif len(parts) > 1:  # only reports by peer are divided
         frame = by_place(frame, [part.places for part in shares])
-    return Part(_named(frame, [name], 0), None, _summaries(shares))
+    return Part(_named(frame, [name], 0), None, *told)
 
 
 def _named(frame, names, at):
@@ -143,11 +145,12 @@ def _named(frame, names, at):
     return frame.assign(collector=collector)[["collector", *frame.columns]]
 
 
-def _summaries(parts):
+def _lists(parts):
+    """Lists by name, of several such dicts."""
     whole = {}
     for part in parts:
-        for name, summaries in part.summaries.items():
-            whole[name] = whole.get(name, []) + summaries
+        for name, some in part.items():
+            whole[name] = whole.get(name, []) + some
     return whole
 
 
@@ -156,7 +159,8 @@ def _merged(ask, *parts):
     values = [part.frame for part in parts if part.frame is not None]
     merge = _summed if REPORTS[ask.run()].merge == "sum" else frames.joined
     failed = {name: error for part in parts for name, error in part.failed.items()}
-    return Part(merge(values) if values else None, None, _summaries(parts), failed)
+    told = _lists(part.summaries for part in parts), _lists(part.notes for part in parts)
+    return Part(merge(values) if values else None, None, *told, failed)
 
 
 def _in_order(counts):
@@ -190,7 +194,16 @@ def _origins(counts):
 
 
 def _partition(ask, names, name, files, number):
-    return _named(_replayed(ask, name, files, number, is_placed=False).frame, names, names.index(name))
+    part = _replayed(ask, name, files, number, is_placed=False)
+    _tell(part.notes)
+    return _named(part.frame, names, names.index(name))
+
+
+def _tell(notes):
+    """Warns of notes by collector, of each once, however many of its shares have it."""
+    for name, some in notes.items():
+        for note in dict.fromkeys(some):
+            warnings.warn(NoteWarning(f"{name}: {note}"), stacklevel=run.level())
 
 
 class Collectors:
@@ -263,6 +276,7 @@ class Collectors:
             raise ValueError("there is no collector")
         whole = self._here(ask) if self.client is None else self._there(ask)
         self.failed, self.summaries = whole.failed, whole.summaries
+        _tell(whole.notes)
         if whole.frame is None:
             raise next(iter(self.failed.values()))
         if REPORTS[ask.run()].merge != "sum":

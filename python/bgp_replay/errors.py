@@ -57,6 +57,10 @@ class DamagedWarning(UserWarning):
         return self.words
 
 
+class NoteWarning(UserWarning):
+    """A note of the program: the report is returned, and the dumps are likely not what was meant, as it says."""
+
+
 def error_of(status, words):
     """The exception for an exit status other than 0 and 1, from what the program said."""
     words = words.strip("\n")

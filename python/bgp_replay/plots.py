@@ -47,9 +47,9 @@ def spans(history, until=None):
     """From when to when each peer had which origin ASes of each prefix, of a frame of `history`.
 
     A row has the columns prefix, collector (where `history` has it), peer_asn, peer_ip, origins (a text: those of all
-    the peer's paths), since and until. A peer without a route has no row for this time. What is there at the end lasts
-    to `until`, a time in UTC, or else to the last row of `history`. Take `history` from the RIB dump on, without
-    `since`: what was there before its first row isn't known.
+    the peer's paths), since, until and stands. A peer without a route has no row for this time. What is there at the
+    end stands, and lasts to `until`, a time in UTC, or else to the last row of `history`; what ended, ended at `until`.
+    Take `history` from the RIB dump on, without `since`: what was there before its first row isn't known.
     """
     import pandas
 
@@ -57,10 +57,10 @@ def spans(history, until=None):
     end = pandas.to_datetime(until, utc=True) if until is not None else history["timestamp"].max()
     rows, routes, begun = [], {}, {}
 
-    def close(key, moment):
+    def close(key, moment, stands=False):
         origins, since = begun.pop(key, (None, None))
-        if origins is not None and since < moment:
-            rows.append([*key, origins, since, moment])
+        if origins is not None and (stands or since < moment):
+            rows.append([*key, origins, since, moment, stands])
 
     for row in history.itertuples():
         if row.timestamp > end or row.what in ("void", "same"):
@@ -77,8 +77,8 @@ def spans(history, until=None):
             if origins is not None:
                 begun[key] = (origins, row.timestamp)
     for key in list(begun):
-        close(key, end)
-    return pandas.DataFrame(rows, columns=[*who, "origins", "since", "until"])
+        close(key, end, stands=True)
+    return pandas.DataFrame(rows, columns=[*who, "origins", "since", "until", "stands"]).astype({"stands": bool})
 
 
 def origins(history, prefix=None, axes=None, until=None):
@@ -117,9 +117,8 @@ def _by_moment(history):
     """By moment and prefix, how many peers have a route, from a frame of `history`: a column for each prefix."""
     import pandas
 
-    end = history["timestamp"].max() + pandas.Timedelta(seconds=1)
-    found = spans(history, end)
-    ends = found[found["until"] < end]
+    found = spans(history)
+    ends = found[~found["stands"]]
     steps = [found.assign(time=found["since"], step=1), ends.assign(time=ends["until"], step=-1)]
     steps = pandas.concat(steps).pivot_table(index="time", columns="prefix", values="step", aggfunc="sum", fill_value=0)
     return steps.sort_index().cumsum()

@@ -93,7 +93,7 @@ OPTIONS = {
     "same": ("same", _flag),
     "states": ("states", _one(str)),
     "rib": ("rib", _one(str)),
-    "attributes": ("attributes", _each(str)),
+    "quiet": ("quiet", _flag),
     "workers": ("workers", _one(str)),
     "ring": ("ring", _one(str)),
 }

@@ -13,13 +13,14 @@ import tempfile
 import warnings
 
 from . import frames
-from .errors import DamagedError, DamagedWarning, UnpackError, error_of
-from .reports import REPORTS, Report, names_of, words_of
+from .errors import DamagedError, DamagedWarning, NoteWarning, UnpackError, error_of
+from .reports import OPTIONS, REPORTS, Report, names_of, words_of
 from .summary import read_summary
 from .unpacking import MAGIC, Unpacking, packing
 
 _AS_WORDS = 1000  # options: Linux refuses a command line of 2 MiB, or of a quarter of the stack's limit
 _CUT = re.compile(r": (gzip|bzip2) data, offset \d+: ")
+_NOTE = "note: "
 _NOTHING_PACKED = {"gzip": gzip.compress(b"", mtime=0), "bzip2": bz2.compress(b"")}
 
 
@@ -70,10 +71,11 @@ class Replay:
     """One run of the program. Its frames come by iterating, at most `rows` rows each, or as one by `frame()`.
 
     A report is whole once the iteration has come to its end: what is wrong is raised there, and the last frame is held
-    back until then. Afterwards `summary` has the counts, and `notes` what else the program said. `damaged` says what
-    damage is: "warn" warns with DamagedWarning, "raise" raises DamagedError, "ignore" does neither; a packed file that
-    ends early, which `cut` then has and no report lists, is warned of in any case. `unpackers` is the number of threads
-    that unpack files which the program doesn't read by itself. Options are those of the reports.
+    back until then. Afterwards `summary` has the counts, and `said` what else the program said, of which `notes` has
+    the notes: each is a NoteWarning, unless `quiet` is chosen. `damaged` says what damage is: "warn" warns with
+    DamagedWarning, "raise" raises DamagedError, "ignore" does neither; a packed file that ends early, which `cut` then
+    has and no report lists, is warned of in any case. `unpackers` is the number of threads that unpack files which the
+    program doesn't read by itself. Options are those of the reports.
     """
 
     def __init__(self, report, files, *, rows=frames.ROWS, damaged="warn", unpackers=None, **options):
@@ -82,7 +84,7 @@ class Replay:
         self.report, self.files, self.rows = report, names_of(files), rows
         self.damaged, self.unpackers, self.options = damaged, unpackers, words_of(options)
         self.kinds = REPORTS.get(report, Report("rows")).kinds
-        self.summary = self.notes = self.cut = self.unpacking = self.child = None
+        self.summary = self.said = self.notes = self.cut = self.unpacking = self.child = None
 
     def _words(self, listed):
         """The options as words; a long list of prefixes goes into a file, which the program reads as standard input."""
@@ -135,15 +137,21 @@ class Replay:
         if self.unpacking.errors and status in (0, 1, -signal.SIGKILL):
             number, cause = self.unpacking.errors[0]
             raise UnpackError(f"unpacking failed: file {number}\n  {self.files[number - 1]}: {cause}")
+        for name, path in zip(self.unpacking.names, self.files):
+            if name.startswith("/dev/fd/"):
+                others = re.sub(rf"{name}(?!\d)", lambda _: path, others)
         if status not in (0, 1):
-            for name, path in zip(self.unpacking.names, self.files):
-                if name.startswith("/dev/fd/"):
-                    others = re.sub(rf"(?m)^  {name}:", lambda _: f"  {path}:", others)
             raise error_of(status, others)
-        self.summary, self.notes = summary, [line.strip() for line in others.split("\n") if line.strip()]
-        self.cut = [note for note in self.notes if _CUT.search(note)]
+        self.summary, self.said = summary, [line.strip() for line in others.split("\n") if line.strip()]
+        self.notes = [line.removeprefix(_NOTE) for line in self.said if line.startswith(_NOTE)]
+        self.cut = [line for line in self.said if _CUT.search(line)]
         if status == 1:
             self._tell_damage()
+        self._tell_notes()
+
+    def _tell_notes(self):
+        for note in self.notes:
+            warnings.warn(NoteWarning(note), stacklevel=level())
 
     def _tell_damage(self):
         counts = {}
@@ -151,12 +159,12 @@ class Replay:
             if file.faults:
                 counts[file.name] = counts.get(file.name, 0) + file.faults
         by_file = [f"{name}: {count}" for name, count in counts.items()]
-        others = [note for note in self.notes if not note.startswith("note: ")]
+        others = [line for line in self.said if not line.startswith(_NOTE)]
         words = "\n  ".join([f"damaged: {self.summary.damaged}", *by_file, *others])
         if self.damaged == "raise":
             raise DamagedError(words, counts=counts)
         if self.damaged == "warn" or self.cut:
-            warnings.warn(DamagedWarning(words, counts), stacklevel=_level())
+            warnings.warn(DamagedWarning(words, counts), stacklevel=level())
 
     def __iter__(self):
         for piece in self._pieces():
@@ -167,12 +175,17 @@ class Replay:
         return frames.shaped(self.kinds, frames.joined(list(self._pieces())), self.files)
 
 
-def _level():
+def level():
     """How far up the caller is that isn't of this package, for a warning."""
     level, at = 1, sys._getframe(1)
     while at.f_back and at.f_globals.get("__name__", "").startswith(__package__ + "."):
         level, at = level + 1, at.f_back
     return level
+
+
+def of_peers(options):
+    """Those of a report's options that `peers` has too: the others don't choose units."""
+    return {name: value for name, value in options.items() if name not in OPTIONS or has("peers", OPTIONS[name][0])}
 
 
 def summary(files, **options):

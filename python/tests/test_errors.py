@@ -1,5 +1,6 @@
 """What goes wrong is an exception with the program's words, and nothing of the report is returned."""
 
+import lzma
 import pickle
 import warnings
 
@@ -39,10 +40,45 @@ def test_damage(sample):
     assert error.value.counts == {sample[1]: 1}
     with warnings.catch_warnings():
         warnings.simplefilter("error")
-        bgp_replay.visibility(sample, damaged="ignore")
+        bgp_replay.visibility(sample, damaged="ignore", quiet=True)
         bgp_replay.visibility(sample[0])
     with pytest.raises(ValueError, match="'warn', 'raise' and 'ignore'"):
         bgp_replay.visibility(sample, damaged="no")
+
+
+def test_notes(sample, tmp_path):
+    """Those of docs/USAGE.md, each a warning at the caller's line; a file that is unpacked here has its own name."""
+    turned = [sample[1], sample[0]]
+    wanted = ["units that changed nothing, since their peer wasn't up: 10, of 65107 192.0.2.5 (10); --states established takes them",
+              f"files whose first record is older than that of the file named before: {sample[0]}"]
+    with pytest.warns(bgp_replay.NoteWarning) as warned:
+        bgp_replay.peers(turned, peers=[65107])
+    assert [str(one.message) for one in warned] == wanted and {one.filename for one in warned} == {__file__}
+    run = bgp_replay.Replay("peers", turned, peers=[65107])
+    with pytest.warns(bgp_replay.NoteWarning):
+        run.frame()
+    assert run.notes == wanted
+    with warnings.catch_warnings():
+        warnings.simplefilter("error")
+        bgp_replay.peers(turned, peers=[65107], quiet=True)
+    with open(sample[0], "rb") as file:
+        (tmp_path / "rib.xz").write_bytes(lzma.compress(file.read()))
+    with pytest.warns(bgp_replay.NoteWarning, match=f"file named before: {tmp_path}/rib.xz$"):
+        bgp_replay.peers([sample[1], tmp_path / "rib.xz"], peers=[65107])
+
+
+def test_notes_of_collectors(sample):
+    """Each once, with the collector's name, whatever the number of shares."""
+    collectors = pytest.importorskip("bgp_replay.collectors")
+    turned = [sample[1], sample[0]]
+    wanted = {f"{name}: files whose first record is older than that of the file named before: {sample[0]}" for name in "ab"}
+    for shares in (1, 3):
+        with pytest.warns(bgp_replay.NoteWarning) as warned:
+            collectors.Collectors({"a": turned, "b": turned}, shares=shares, prefixes="203.0.113.0/24").churn()
+        told = [str(one.message) for one in warned if "older" in str(one.message)]
+        assert set(told) == wanted and len(told) == 2 and {one.filename for one in warned} == {__file__}
+    with pytest.raises(TypeError, match="there is no option 'attributes'"):
+        bgp_replay.tables(sample, attributes="communities")
 
 
 @pytest.mark.parametrize("size, status", [(30, 1), (5000, 1)])
@@ -93,7 +129,7 @@ def test_no_program(monkeypatch, sample):
 @pytest.mark.parametrize("error", [
     bgp_replay.ReplayError("a", 3, "rrc00"), bgp_replay.OpenError("b\n  c", 3), bgp_replay.UsageError("d", 2),
     bgp_replay.UnpackError("e"), bgp_replay.DamagedError("f", counts={"x": 2}), bgp_replay.GapError([1], ["g"]),
-    bgp_replay.DamagedWarning("h", {"y": 3}),
+    bgp_replay.DamagedWarning("h", {"y": 3}), bgp_replay.NoteWarning("i"),
 ], ids=lambda error: type(error).__name__)
 def test_errors_can_be_pickled(error):
     error.collector = "rrc01"

@@ -32,6 +32,8 @@ def test_spans(sample):
     assert spans.loc[200104, ["origins", "since", "until"]].values.tolist() == [
         ["AS374813", time("07:01:16"), time("07:05:00")], ["AS4200001457", time("07:05:00"), time("07:20:00")]]
     assert spans.loc[65107, ["origins", "since", "until"]].tolist() == ["AS4200001457", time("07:01:16"), time("07:12:00")]
+    assert spans.loc[200104, "stands"].tolist() == [False, True] and not spans.loc[65107, "stands"]  # the others stand
+    assert spans["stands"].sum() == len(spans) - 2 == 6
     # those of docs/USAGE.md at these moments
     assert seen_at(spans, time("07:04:00")) == {"AS35220": 3, "AS374813": 3, "AS4200001457": 5}
     assert seen_at(spans, time("07:06:00")) == {"AS35220": 3, "AS374813": 2, "AS4200001457": 6}
@@ -55,6 +57,9 @@ def test_spans_by_paths():
     seconds = found[["since", "until"]].apply(lambda times: (times - time("07:00:00")).dt.total_seconds().astype(int))
     assert list(zip(found["origins"], seconds["since"], seconds["until"])) == [
         ("AS2", 0, 1), ("no AS", 1, 4), ("AS9", 4, 7), ("no AS", 8, 10), ("AS4", 10, 12)]
+    assert found["stands"].tolist() == [False] * 4 + [True]
+    last = plots.spans(history).iloc[-1]  # it stands from the last row on, though for no time
+    assert (last["origins"], last["since"], last["stands"]) == ("AS4", last["until"], True)
     assert not len(plots.spans(history.iloc[:0]))
 
 
