@@ -35,7 +35,8 @@ help:
 	@echo 'make verdict      each crate from nothing, with its tests'
 	@echo 'make scripts      tries lines, notes and statuses, the packages, recipes, shares of the peers, packed dumps, what the build records and refuses, and that pages and comments name what there is'
 	@echo 'make quick-check  builds that program, and tries it'
-	@echo 'make python-check tries the Python package, with pandas and Dask (Debian packages that it installs as root)'
+	@echo 'make python-check tries the Python package, with pandas, Dask and a browser (Debian packages that it installs as root)'
+	@echo 'make page         makes bin/page.html, the page of an incident in the dumps of examples/, with pandas and Jinja2'
 	@echo 'make refusals     fails each allocation, read, write and thread start in turn'
 	@echo 'make growths      fails each allocation of the test programs that state what is left then'
 	@echo 'make same         every number of workers and ring gives the same bytes'
@@ -124,6 +125,13 @@ quick-check: $(QUICK)
 python-check: $(BINARY)
 	tests/python.sh '$(BINARY)'
 
+# The page of what happened to a prefix in the dumps of examples/: one of their records is damaged, which is status 1.
+PYTHON ?= /usr/bin/python3
+page: $(BINARY)
+	@mkdir -p bin; BGP_REPLAY='$(abspath $(BINARY))' PYTHONPATH=python PYTHONDONTWRITEBYTECODE=1 '$(PYTHON)' -m bgp_replay page \
+	  --prefix 17.150.214.0/24+ examples/sample.mrt examples/updates.mrt -o bin/page.html || [ $$? = 1 ]
+	@echo 'bin/page.html: open it in any browser'
+
 # Each allocation, read, write and thread start of whole runs fails in turn, on the program as it is built.
 refusals: $(BINARY)
 	tests/refused_growths.sh '$(BINARY)'
@@ -158,5 +166,5 @@ bench: $(PROGRAM)
 clean:
 	rm -rf bin dist bench/out crates/*/out
 
-.PHONY: all help quick run check verdict quick-check python-check edits install uninstall dist deb python-deb scripts refusals growths maps same fuzz hostile bench clean
+.PHONY: all help quick run check verdict quick-check python-check page edits install uninstall dist deb python-deb scripts refusals growths maps same fuzz hostile bench clean
 .PHONY: proved

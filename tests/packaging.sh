@@ -158,12 +158,17 @@ if has dpkg-deb; then
   check 'make python-deb: the same bytes' cmp "$work/python/$package" "$work/python-again/$package"
   check 'python-deb needs the program of this version' grep -qF "bgp-replay (= $version)" <(dpkg-deb -f "$work/python/$package" Depends)
   check 'dpkg-deb opens the Python package' dpkg-deb -x "$work/python/$package" "$work/unpacked"
-  for file in python/bgp_replay/*.py; do check "$file is packed" cmp "$file" "$site/bgp_replay/${file##*/}"; done
+  for file in python/bgp_replay/*.py python/bgp_replay/page_parts/*; do check "$file is packed" cmp "$file" "$site/${file#python/}"; done
   check 'the Python package is of this version' grep -qx "Version: $version" "$site/bgp_replay-$version.dist-info/METADATA"
   check 'its page is compressed' cmp <(gzip -dc "$work/unpacked/usr/share/doc/python3-bgp-replay/PYTHON.md.gz") docs/PYTHON.md
   if has /usr/bin/python3 && /usr/bin/python3 -c 'import pandas' > "$work/log" 2>&1; then
     check 'it is imported, and finds the program' env -C "$work" PATH="$work/unpacked/usr/bin:$PATH" PYTHONPATH="$site" PYTHONDONTWRITEBYTECODE=1 \
       /usr/bin/python3 -c "import sys, bgp_replay; assert bgp_replay.__file__.startswith('$site') and len(bgp_replay.tables(sys.argv[1]))" "$top/examples/sample.mrt"
+    if /usr/bin/python3 -c 'import jinja2' > "$work/log" 2>&1; then
+      packed_page() { env -C "$work" PATH="$work/unpacked/usr/bin:$PATH" PYTHONPATH="$site" PYTHONDONTWRITEBYTECODE=1 /usr/bin/python3 -m bgp_replay \
+        page --prefix 17.150.214.0/24+ "$top/examples/sample.mrt" -o "$work/page.html" && grep -q '^<title>What happened to 17' "$work/page.html"; }
+      check 'it makes a page' packed_page
+    else echo "not tried: jinja2 isn't installed"; fi
   else echo "not tried: pandas isn't installed"; fi
   if has lintian; then check 'lintian finds no error in it' lintian --fail-on error "$work/python/$package"; fi
 fi

@@ -111,6 +111,8 @@ pack_python_deb() {
     { echo "tools/pack.sh: python/bgp_replay isn't of version $version, which $program is of" >&2; exit 2; }
   install -d "$site/bgp_replay" "$site/bgp_replay-$version.dist-info" "$documents" "$root/DEBIAN"
   install -m 644 python/bgp_replay/*.py "$site/bgp_replay"
+  install -d "$site/bgp_replay/page_parts"
+  install -m 644 python/bgp_replay/page_parts/* "$site/bgp_replay/page_parts"
   printf 'Metadata-Version: 2.1\nName: bgp-replay\nVersion: %s\nRequires-Dist: numpy\nRequires-Dist: pandas\n' "$version" \
     > "$site/bgp_replay-$version.dist-info/METADATA"
   echo dpkg > "$site/bgp_replay-$version.dist-info/INSTALLER"
@@ -126,14 +128,15 @@ Architecture: all
 Maintainer: $maintainer
 Installed-Size: $size
 Depends: python3 (>= 3.10), python3-numpy, python3-pandas, bgp-replay (= $version)
-Recommends: python3-dask, python3-distributed, python3-matplotlib
+Recommends: python3-dask, python3-distributed, python3-jinja2, python3-matplotlib
 Suggests: zstd
 Section: python
 Priority: optional
 Description: replay of MRT dumps of BGP route collectors (Python 3)
  The reports of bgp_replay as pandas frames: tables, visibility, origins,
  churn, longest matches and damaged records, of plain or compressed dumps, of
- one collector or, on Dask, of many.
+ one collector or, on Dask, of many. What happened to a prefix is one HTML page
+ to look at.
 END
   printf '#!/bin/sh\nset -e\nif [ "$1" = configure ] && command -v py3compile > /dev/null; then py3compile -p %s; fi\n' $name > "$root/DEBIAN/postinst"
   printf '#!/bin/sh\nset -e\nif command -v py3clean > /dev/null; then py3clean -p %s; fi\n' $name > "$root/DEBIAN/prerm"

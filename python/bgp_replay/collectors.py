@@ -311,6 +311,19 @@ class Collectors:
         """What happened to chosen prefixes (`prefixes=`); the first column is the collector."""
         return self.report("history")
 
+    def page(self, prefixes, *, since=None, until=None, title=None, names=None, vrps=None, one_run=False):
+        """One HTML page of what happened to some prefixes, as its text; see `bgp_replay.page`."""
+        from .pages import Source, listed, page_of
+        from .incident import moment
+
+        asked, until = listed(prefixes), None if until is None else moment(until)
+        everyone = None if one_run else self.report("peers", until=until, prefixes=None, addresses="short", quiet=True)
+        history = self.report("history", prefixes=asked, until=until, addresses="short")
+        summaries = [one for some in self.summaries.values() for one in some]
+        source = Source(asked, [file for one in summaries for file in one.files], sum(one.damaged for one in summaries),
+                        everyone, list(self.failed))
+        return page_of(history, since=since, until=until, title=title, names=names, vrps=vrps, source=source)
+
     def peers(self):
         """The peers, and the place of each one's first unit; the first column is the collector."""
         return self.report("peers")

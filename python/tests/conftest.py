@@ -18,6 +18,7 @@ TOP = PYTHON.parent
 sys.path[:0] = [str(PYTHON), str(PYTHON / "tests")]
 
 import bgp_replay
+import drawn_incident
 
 ADDRESS = "174.56.0.1"  # the drawn dumps have 174.56.0.0/16
 FIRST = 1717200000  # the second of the drawn RIB dumps
@@ -135,6 +136,16 @@ def drawn(gen_mrt, tmp_path_factory):
         files[0].write_bytes(of_collector(rib, number))
         files[1].write_bytes(2 * damaged(updates) if number == 1 else updates)
     return found
+
+
+@pytest.fixture(scope="session")
+def incident_files(tmp_path_factory):
+    """The drawn incident's RIB dump and updates."""
+    folder, files = tmp_path_factory.mktemp("incident"), []
+    for name, dump in zip(("rib.mrt", "updates.mrt"), drawn_incident.incident()):
+        (folder / name).write_bytes(dump)
+        files.append(folder / name)
+    return files
 
 
 @pytest.fixture(scope="session")
