@@ -68,7 +68,7 @@ function svgUnder(node) {
 const opacityOf = (node) => (node ? Number(getComputedStyle(node).opacity) * opacityOf(node.parentElement) : 1);
 for (const node of all("body *")) {
   const hasText = [...node.childNodes].some((child) => child.nodeType === 3 && child.data.trim());
-  if (!hasText || !isShown(node) || node.closest("title, script, style, option, :disabled, .faint, [hidden]")) continue;
+  if (!hasText || !isShown(node) || node.closest("title, script, style, option, :disabled, [hidden]")) continue;
   const style = getComputedStyle(node);
   const isSvg = node instanceof SVGElement;
   const under = isSvg ? svgUnder(node) : underOf(node);

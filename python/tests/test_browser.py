@@ -347,6 +347,12 @@ def test_accessible(browser, judged, scheme):
         judged.js("document.querySelector('#rows button[data-peer]').click()")
         judged.settle()
         assert judged.js(ACCESSIBLE) == []
+        judged.set("compare", "event")
+        judged.js("[...document.querySelectorAll('#summary a')].filter((link) => link.hash.endsWith('.128/25')).sort((a, b) => "
+                  "(a.hash < b.hash ? -1 : 1)).pop().click()")  # the last withdrawal
+        judged.settle()
+        assert judged.js("return document.querySelectorAll('#graph .faint').length") > 0
+        assert judged.js(ACCESSIBLE) == []
     finally:
         browser.execute_cdp_cmd("Emulation.setEmulatedMedia", {"features": []})
 
