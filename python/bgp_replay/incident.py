@@ -126,6 +126,7 @@ class Incident:
         self.changes = self.events[self.events["what"].isin(_CHANGES)]
         check_count(len(self.events))
         self.prefixes = sorted(map(str, frame["prefix"].unique()), key=longest.place)
+        self.main = next((name for name in _bare(asked) if name in self.prefixes), self.prefixes[0])
         self.peers = _peers(frame, self.who)
         self._count(everyone)
         self._look(longest.rows(spans(frame, self.after_end), self.who))
@@ -146,8 +147,7 @@ class Incident:
         self.left_out = max(0, len(sizes) - MOST_PREFIXES)
         if not self.left_out:
             return frame, is_before
-        named = [prefix.rstrip("+-") for prefix in asked]
-        sizes[[name for name in named if name in sizes]] += len(frame)
+        sizes[[name for name in _bare(asked) if name in sizes]] += len(frame)
         is_in = frame["prefix"].isin(sizes.nlargest(MOST_PREFIXES).index).to_numpy()
         return frame[is_in], is_before[is_in]
 
@@ -181,11 +181,11 @@ class Incident:
         # Where nothing is there at the start, what comes first is taken for what was there.
         self.is_blank = not any(sight.start for sight in sights)
         self._judge(sights)
-        self.parts = longest.parts(self.prefixes)
-        is_nested = any(len(part.chain) > 1 for part in self.parts)
+        parts = longest.parts(self.prefixes)
+        nested = {prefix for part in parts if len(part.chain) > 1 for prefix in part.chain}
+        self.parts = [part for part in parts if part.chain[0] in nested]
         order = {part.name: number for number, part in enumerate(self.parts)}
-        gets = self._sights(longest.spans(found, self.parts)) if is_nested else []
-        self.gets = sorted(gets, key=lambda sight: order[sight.prefix])
+        self.gets = sorted(self._sights(longest.spans(found, self.parts)), key=lambda sight: order[sight.prefix])
         for sight in self.gets:
             sight.is_new = self.origins[sight.origin]
         for sight in sights:
@@ -219,12 +219,16 @@ class Incident:
         return [sight for prefix in self.prefixes for sight in self.held[prefix].sights]
 
     def there(self):
-        """The prefixes that some peer has at the start."""
-        return [prefix for prefix in self.prefixes if self.held[prefix].start]
+        """The prefixes that some peer has at the start: the main one, then those whose new origins most peers see."""
+        def rank(prefix):
+            return prefix != self.main, -max((sight.most for sight in self.held[prefix].came), default=0)
+
+        return sorted((prefix for prefix in self.prefixes if self.held[prefix].start), key=rank)
 
     def appeared(self):
-        """The prefixes that no peer has at the start and some has later."""
-        return [prefix for prefix in self.prefixes if self.held[prefix].ever and not self.held[prefix].start]
+        """The prefixes that no peer has at the start and some has later: those that most have first."""
+        some = (prefix for prefix in self.prefixes if self.held[prefix].ever and not self.held[prefix].start)
+        return sorted(some, key=lambda prefix: -len(self.held[prefix].ever))
 
     def is_inside(self, prefix):
         """Whether it is more specific than a prefix that is there at the start."""
@@ -237,6 +241,11 @@ class Incident:
 
     def who_of(self, row):
         return self.name(tuple(row[name] for name in self.who))
+
+
+def _bare(asked):
+    """The prefixes that were asked for, without what tells more-specifics and what contains them."""
+    return [prefix.rstrip("+-") for prefix in asked]
 
 
 def _peers(frame, who):

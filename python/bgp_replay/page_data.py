@@ -72,7 +72,8 @@ def data(incident, names, validity):
     asns = {asn for *_, asn, _ in incident.peers}
     asns |= {int(asn) for path, *_ in routes.rows for asn in re.findall(r"\d+", path or "")}
     return {"start": incident.start.value // 1000, "length": (incident.end - incident.start) // MICRO,
-            "total": incident.total, "prefixes": incident.prefixes, "peers": incident.peers,
+            "total": incident.total, "prefixes": incident.prefixes, "main": prefixes[incident.main],
+            "peers": incident.peers,
             "parts": [[part.name, [prefixes[prefix] for prefix in part.chain]] for part in incident.parts],
             "columns": routes.columns, "attributes": list(routes.attributes), "origins": origins, "routes": routes.rows,
             "validity": standing, "names": {asn: name for asn, name in names.items() if asn in asns},

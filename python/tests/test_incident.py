@@ -119,6 +119,21 @@ def test_longest_match_is_that_of_the_program(incident_files):
             assert not incident.gets or told == origins
 
 
+def test_what_comes_first():
+    """The prefix that was asked for, then what changed at most peers; parts are those of nested prefixes alone."""
+    rows = [(0, "new", "rib", 1, "a", prefix, 0, "1 2") for prefix in ("0.0.0.0/0", "10.0.0.0/8", "10.0.0.0/24", "11.0.0.0/8", "::/0")]
+    rows += [(1, "changed", "update", 1, "a", "11.0.0.0/8", 0, "1 3"), (2, "new", "update", 2, "b", "12.0.0.0/8", 0, "2 4"),
+             (3, "new", "update", 1, "a", "13.0.0.0/8", 0, "1 4"), (3, "new", "update", 2, "b", "13.0.0.0/8", 0, "2 4")]
+    incident = Incident(history_frame(*rows), asked=["9.0.0.0/8", "10.0.0.0/24-", "10.0.0.0/24+"])
+    assert incident.main == "10.0.0.0/24" and data(incident, {}, {})["main"] == incident.prefixes.index("10.0.0.0/24")
+    assert incident.there() == ["10.0.0.0/24", "11.0.0.0/8", "0.0.0.0/0", "10.0.0.0/8", "::/0"]
+    assert incident.appeared() == ["13.0.0.0/8", "12.0.0.0/8"]
+    assert Incident(history_frame(*rows)).main == "0.0.0.0/0"
+    assert [part.name for part in incident.parts] == [
+        "rest of 0.0.0.0/0", "10.0.0.0/24", "rest of 10.0.0.0/8", "11.0.0.0/8", "12.0.0.0/8", "13.0.0.0/8"]
+    assert Incident(history_frame(rows[3], rows[4])).parts == []
+
+
 def test_of_how_many_peers():
     """Those that have a route of any prefix count, beside those that had one of these; the others are told apart."""
     rows = [(0, "new", "rib", 1, "a", "10.0.0.0/8", 0, "1 2"), (1, "lost", "state", 1, "a", "10.0.0.0/8", 0, "1 2")]

@@ -1,7 +1,7 @@
 // The panels over time: the strip above the slider, a row for each prefix and each part by longest match, steps, and a
 // row for each peer or pattern.
 const S = {
-  t: 0, view: [0, Math.max(D.length, 1)], prefix: 0, peer: null, grouped: null, sort: "change", open: new Set(),
+  t: 0, view: [0, Math.max(D.length, 1)], prefix: D.main, peer: null, grouped: null, sort: "change", open: new Set(),
   counts: null, least: 0, width: 0,
 };
 const $ = (id) => document.getElementById(id);
@@ -63,9 +63,12 @@ function grid(w, h) {
 
 function axis(w) {
   const shown = svg("svg", {class: "axis", width: w, height: 18, "aria-hidden": "true"});
+  let end = -Infinity; // of the last text
   for (const [t, text] of ticks(w)) {
     const x = xOf(t, w);
     const half = text.length * 3.3;
+    if (Math.max(x - half, 0) < end) continue;
+    end = Math.max(x, half) + half + 6;
     const anchor = x < half ? "start" : x > w - half ? "end" : "middle";
     shown.append(svg("text", {x: round(x), y: 13, "text-anchor": anchor}, text));
   }

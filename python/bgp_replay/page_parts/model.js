@@ -20,7 +20,7 @@ const ROUTES = D.routes.map(([text, origin, attributes]) => {
 const ORIGINS = D.origins.map(([name, isNew]) => ({name, isNew, color: "", as: asnName(name.slice(2))}));
 const VALIDITY = new Map(D.validity.map(([prefix, origin, state]) => [`${prefix} ${origin}`, state]));
 const validityOf = (prefix, origin) => VALIDITY.get(`${prefix} ${origin}`) || "";
-const IS_NESTED = D.parts.some(([, chain]) => chain.length > 1);
+const IS_NESTED = D.parts.length > 0;
 const EVENTS = [];
 const TRACKS = D.prefixes.map(() => PEERS.map(() => null)); // by prefix and peer: {t: [..], routes: [[..], ..]}
 
