@@ -116,7 +116,9 @@ class Incident:
             raise ValueError("the time ends before it begins")
         is_in = leads | (frame["at"] < self.end + pandas.Timedelta(seconds=1)).to_numpy()
         frame, leads = frame[is_in], leads[is_in]
-        self.end = max(self.end, frame["at"].max()) if len(frame) else self.end
+        if not len(frame):
+            raise ValueError(f"no route of these prefixes is there by {self.end:%Y-%m-%d %H:%M:%S} UTC: choose a later end")
+        self.end = max(self.end, frame["at"].max())
         # An event at the very start comes after what was there, and what is there after one at the very end lasts.
         self.before_start, self.after_end = self.start - MICRO, self.end + MICRO
         is_before = leads | (frame["at"] < self.start).to_numpy()
@@ -135,8 +137,8 @@ class Incident:
         """The rows in order, with their time in it as `at`; and which of them are of the RIB dump at the beginning."""
         groups = frame["collector"].astype(str) if "collector" in frame else pandas.Series("", frame.index)
         leads = (frame["by"] == "rib").groupby(groups).cummin()
-        micros = frame["timestamp"].astype("int64").mask(leads, 0).groupby(groups).cummax()
-        at = pandas.to_datetime(micros, utc=True).mask(leads, frame["timestamp"])
+        nanos = frame["timestamp"].astype("datetime64[ns, UTC]").astype("int64").mask(leads, 0).groupby(groups).cummax()
+        at = pandas.to_datetime(nanos, utc=True).mask(leads, frame["timestamp"])
         frame = frame.assign(recorded=frame["timestamp"], at=at)
         frame = pandas.concat([frame[leads], frame[~leads].sort_values("at", kind="stable")], ignore_index=True)
         return frame, numpy.arange(len(frame)) < leads.sum()
@@ -166,6 +168,23 @@ class Incident:
 
     def _look(self, found):
         """Who has each prefix and sees each of its origins, and where its addresses go by longest match."""
+        self._hold(found)
+        sights = self._sights(found)
+        # Where nothing is there at the start, what comes first is taken for what was there.
+        self.is_blank = not any(sight.start for sight in sights)
+        self._judge(sights)
+        for sight in sights:
+            self.held[sight.prefix].sights.append(sight)
+        parts = longest.parts(self.prefixes)
+        nested = {prefix for part in parts if len(part.chain) > 1 for prefix in part.chain}
+        self.parts = [part for part in parts if part.chain[0] in nested]
+        order = {part.name: number for number, part in enumerate(self.parts)}
+        self.gets = sorted(self._sights(longest.spans(found, self.parts)), key=lambda sight: order[sight.prefix])
+        for sight in self.gets:
+            sight.is_new = self.origins[sight.origin]
+
+    def _hold(self, found):
+        """Who has each prefix at the start, at the end and ever."""
         self.held, first_of = {prefix: Held() for prefix in self.prefixes}, {}
         for span in found:
             held = self.held[span.prefix]
@@ -177,19 +196,6 @@ class Incident:
                 held.turned[span.peer] = min(span.since, held.turned.get(span.peer, span.since))
             if span.stands:
                 held.end.add(span.peer)
-        sights = self._sights(found)
-        # Where nothing is there at the start, what comes first is taken for what was there.
-        self.is_blank = not any(sight.start for sight in sights)
-        self._judge(sights)
-        parts = longest.parts(self.prefixes)
-        nested = {prefix for part in parts if len(part.chain) > 1 for prefix in part.chain}
-        self.parts = [part for part in parts if part.chain[0] in nested]
-        order = {part.name: number for number, part in enumerate(self.parts)}
-        self.gets = sorted(self._sights(longest.spans(found, self.parts)), key=lambda sight: order[sight.prefix])
-        for sight in self.gets:
-            sight.is_new = self.origins[sight.origin]
-        for sight in sights:
-            self.held[sight.prefix].sights.append(sight)
 
     def _sights(self, found):
         """Who sees each origin: by the moment in which it's first seen, then by peers."""

@@ -70,7 +70,19 @@ def test_without_a_rib_dump():
         page_of(history_frame(), source=Source(["10.0.0.0/8+"]))
     with pytest.raises(ValueError, match="the time ends before it begins"):
         Incident(history_frame(*rows), since="2026-05-14T12:00:05Z", until="2026-05-14T12:00:04Z")
+    with pytest.raises(ValueError, match="no route of these prefixes is there by 2026-05-14 11:00:00 UTC"):
+        page_of(history_frame(*rows), since="2026-05-14T10:00:00Z", until="2026-05-14T11:00:00Z")
     assert not len(Incident(history_frame(*rows), since="2026-05-14T13:00:00Z", until="2026-05-14T14:00:00Z").events)
+
+
+def test_files_in_another_order(sample):
+    """Updates alone, and a RIB dump behind them, whose time goes back: what comes first is taken for what was there."""
+    words = words_of(page_text(sample[1], PREFIX))
+    assert "Nothing is there at the start" in words and "2026-11-22 07:05:00 to 07:13:41 UTC" in words
+    words = words_of(page_text([sample[1], sample[0]], PREFIX, quiet=True))
+    assert "Nothing is there at the start" in words and "AS35220 new 0 3 3 07:13:41" in words
+    words = words_of(page_text(sample[0], PREFIX))
+    assert "Nothing happened to these prefixes in this time." in words and "0 events in 0 s, at 7 peers" in words
 
 
 def test_two_collectors():
