@@ -117,7 +117,7 @@ class Incident:
         is_in = leads | (frame["at"] < self.end + pandas.Timedelta(seconds=1)).to_numpy()
         frame, leads = frame[is_in], leads[is_in]
         if not len(frame):
-            raise ValueError(f"no route of these prefixes is there by {self.end:%Y-%m-%d %H:%M:%S} UTC: choose a later end")
+            raise ValueError(f"no route of these prefixes is there by {self.end:%Y-%m-%d %H:%M:%S} UTC, the page's end")
         self.end = max(self.end, frame["at"].max())
         # An event at the very start comes after what was there, and what is there after one at the very end lasts.
         self.before_start, self.after_end = self.start - MICRO, self.end + MICRO

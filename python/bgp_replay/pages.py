@@ -119,7 +119,8 @@ def page_of(history, *, since=None, until=None, title=None, names=None, vrps=Non
     made = jinja2.Environment(autoescape=True, loader=jinja2.FileSystemLoader(PARTS), trim_blocks=True,
                               lstrip_blocks=True, undefined=jinja2.StrictUndefined)
     made.filters |= {
-        "count": count, "several": several, "wanted": wanted, "name_of": lambda peer: incident.name(peer),
+        "count": count, "several": several, "wanted": wanted, "name_of": incident.name,
+        "clock": lambda time: f"{time:%H:%M:%S}" if time.date() == incident.start.date() else f"{time:%F %T}",
         "named": lambda origin: names.get(int(origin[2:])) if origin != NO_AS else None}
     return made.get_template("page.html").render(
         title=title or f"What happened to {several(map(wanted, source.asked or incident.prefixes), 3)}",

@@ -85,6 +85,12 @@ def test_files_in_another_order(sample):
     assert "Nothing happened to these prefixes in this time." in words and "0 events in 0 s, at 7 peers" in words
 
 
+def test_other_days():
+    """Times of another day than that of the start have their day."""
+    words = words_of(page_of(history_frame((0, "new", "rib", 1, "a", "10.0.0.0/8", 0, "1 2"), (3 * 86400, "changed", "update", 1, "a", "10.0.0.0/8", 0, "1 3"))))
+    assert "2026-05-14 12:00:00 to 2026-05-17 12:00:00 UTC" in words and "AS3 comes as a new origin at 2026-05-17 12:00:00" in words
+
+
 def test_two_collectors():
     """A peer of each collector is a peer of its own, and each collector has its RIB dump."""
     one = history_frame((0, "new", "rib", 1, "a", "10.0.0.0/8", 0, "1 2"), (9, "gone", "update", 1, "a", "10.0.0.0/8", 0, "1 2"))
