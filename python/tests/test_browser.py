@@ -100,9 +100,19 @@ class Shown:
         return set(self.js("return [...document.querySelectorAll('#graph .edge title')].map((title) => title.textContent)"))
 
 
+@pytest.fixture(scope="module")
+def sample_page(sample):
+    return page_text(sample, PREFIX)
+
+
+@pytest.fixture(scope="module")
+def incident_page(incident_files):
+    return bgp_replay.page(incident_files, "192.0.2.0/24+")
+
+
 @pytest.fixture
-def small(browser, sample, tmp_path):
-    return Shown(browser, page_text(sample, PREFIX), tmp_path / "small.html")
+def small(browser, sample_page, tmp_path):
+    return Shown(browser, sample_page, tmp_path / "small.html")
 
 
 def test_slider_moves_all_panels(small):
@@ -226,9 +236,9 @@ def test_panels_by_pointer(small):
     assert small.text("shown") == "3 of 6 events"
 
 
-def test_many_peers(browser, incident_files, tmp_path):
+def test_many_peers(browser, incident_page, incident_files, tmp_path):
     """300 peers and 5,000 events: rows by pattern, a table of which some rows are in the document, and not slow."""
-    shown = Shown(browser, bgp_replay.page(incident_files, "192.0.2.0/24+"), tmp_path / "large.html")
+    shown = Shown(browser, incident_page, tmp_path / "large.html")
     groups = shown.js("return [...document.querySelectorAll('#rows .group b')].map((node) => node.textContent)")
     assert sum(int(re.search(r"\d+", text)[0]) for text in groups) == 286 and len(groups) < 12
     assert 0 < len(shown.rows()) < 60 and shown.js("return document.querySelectorAll('*').length") < 6000
@@ -276,10 +286,10 @@ def test_odd_pages(browser, tmp_path, name):
     assert shown.text("shown").startswith(f"{sum(row[2] != 'rib' for row in ODD[name])} of ")
 
 
-def test_schemes_and_sizes(browser, incident_files, tmp_path):
+def test_schemes_and_sizes(browser, incident_page, tmp_path):
     """Dark as the reader's system says; nothing is wider than a narrow window; printing draws for paper and back."""
     browser.execute_cdp_cmd("Emulation.setEmulatedMedia", {"features": [{"name": "prefers-color-scheme", "value": "dark"}]})
-    shown = Shown(browser, bgp_replay.page(incident_files, "192.0.2.0/24+"), tmp_path / "sizes.html")
+    shown = Shown(browser, incident_page, tmp_path / "sizes.html")
     assert shown.js("return getComputedStyle(document.body).backgroundColor") == "rgb(18, 21, 26)"
     shown.click("scheme")
     assert shown.js("return getComputedStyle(document.body).backgroundColor") == "rgb(245, 246, 248)"
@@ -322,15 +332,20 @@ def other_scheme(browser, name):
     browser.execute_cdp_cmd("Emulation.setEmulatedMedia", {"features": [{"name": "prefers-color-scheme", "value": name}]})
 
 
-@pytest.fixture
-def judged(browser, incident_files, tmp_path):
-    """A page with all that a page may have: names, VRPs, communities, a blackhole, and a peer that stands out."""
+@pytest.fixture(scope="module")
+def judged_page(incident_files, tmp_path_factory):
+    """A page with all that a page may have: names, VRPs, communities and blackholes."""
+    vrps = tmp_path_factory.mktemp("vrps") / "vrps.csv"
     history = bgp_replay.history(incident_files, prefixes="192.0.2.0/24+", addresses="short")
     is_odd = history["peer_asn"].mod(2) == 1
     history["communities"] = pandas.Categorical(is_odd.map({True: "64500:1", False: "64500:1 65535:666"}))
-    (tmp_path / "vrps.csv").write_text("ASN,IP Prefix,Max Length,Trust Anchor\nAS64500,192.0.2.0/24,24,test\n")
-    text = page_of(history, names={64500: "Example Networks", 64666: "Other, ZZ"}, vrps=tmp_path / "vrps.csv")
-    return Shown(browser, text, tmp_path / "judged.html")
+    vrps.write_text("ASN,IP Prefix,Max Length,Trust Anchor\nAS64500,192.0.2.0/24,24,test\n")
+    return page_of(history, names={64500: "Example Networks", 64666: "Other, ZZ"}, vrps=vrps)
+
+
+@pytest.fixture
+def judged(browser, judged_page, tmp_path):
+    return Shown(browser, judged_page, tmp_path / "judged.html")
 
 
 @pytest.mark.parametrize("scheme", ["light", "dark"])
@@ -371,9 +386,9 @@ def test_order_of_focus(small):
     assert all(outline == "solid" and is_seen for _, outline, is_seen in places)
 
 
-def test_parts_by_longest_match(browser, incident_files, tmp_path):
+def test_parts_by_longest_match(browser, incident_page, incident_files, tmp_path):
     """Where each half goes, as `match` has it of an address in each, and in the window under the pointer."""
-    shown = Shown(browser, bgp_replay.page(incident_files, "192.0.2.0/24+"), tmp_path / "parts.html")
+    shown = Shown(browser, incident_page, tmp_path / "parts.html")
     assert shown.js("return [...document.querySelectorAll('#parts .label b')].map((node) => node.textContent)") == [
         "192.0.2.0/25", "192.0.2.128/25"]
     routes = bgp_replay.match(incident_files, "192.0.2.129", until="2026-05-14T12:50:00Z")
