@@ -1,11 +1,12 @@
 """What goes wrong is an exception with the program's words, and nothing of the report is returned."""
 
 import lzma
+import pathlib
 import pickle
 import warnings
 
 import pytest
-from conftest import frame_of, lines, text_of
+from conftest import cut, frame_of, lines, pack, text_of
 
 import bgp_replay
 from bgp_replay import run
@@ -61,6 +62,11 @@ def test_notes(sample, tmp_path):
     with warnings.catch_warnings():
         warnings.simplefilter("error")
         bgp_replay.peers(turned, peers=[65107], quiet=True)
+    (tmp_path / "plain").write_bytes(pathlib.Path(sample[0]).read_bytes())
+    run = bgp_replay.Replay("peers", cut(pack(tmp_path / "plain", "gz", tmp_path)))
+    with pytest.warns(bgp_replay.DamagedWarning):
+        run.frame()
+    assert len(run.cut) == 1 and run.cut[0] in run.said and run.cut[0] not in run.notes
     with open(sample[0], "rb") as file:
         (tmp_path / "rib.xz").write_bytes(lzma.compress(file.read()))
     with pytest.warns(bgp_replay.NoteWarning, match=f"file named before: {tmp_path}/rib.xz$"):

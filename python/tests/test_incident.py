@@ -105,6 +105,11 @@ def test_longest_match_by_hand():
     assert [(origins, (since - first).seconds, (until - first).seconds) for origins, since, until in spans] == [
         ("AS2", 0, 3), ("AS3", 3, 9), ("AS2", 9, 10), ("AS2", 0, 5), ("AS2", 7, 10)]
     assert Incident(history_frame(*rows[:1])).gets == []  # nothing is nested
+    # The half comes from the owner, goes, and comes from another one: it ends with the latter, though the whole stands.
+    rows = [(0, "new", "rib", 1, "a", "10.0.0.0/24", 0, "1 2"), (0, "new", "rib", 1, "a", "10.0.0.0/25", 0, "1 2"),
+            (3, "gone", "update", 1, "a", "10.0.0.0/25", 0, "1 2"), (7, "new", "update", 1, "a", "10.0.0.0/25", 0, "1 3")]
+    found = {(sight.prefix, sight.origin): sight.end for sight in Incident(history_frame(*rows)).gets}
+    assert found == {("10.0.0.0/25", "AS2"): 0, ("10.0.0.0/25", "AS3"): 1, ("10.0.0.128/25", "AS2"): 1}
 
 
 def test_longest_match_is_that_of_the_program(incident_files):
