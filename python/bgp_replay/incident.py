@@ -105,8 +105,6 @@ class Incident:
     """
 
     def __init__(self, history, since=None, until=None, begun=None, asked=(), everyone=None):
-        if not len(history):
-            raise ValueError("no route of these prefixes is in these files")
         self.who = [*(["collector"] if "collector" in history else []), "peer_asn", "peer_ip"]
         frame, leads = self._ordered(history.reset_index(drop=True))
         begun = [frame["timestamp"].min(), *([] if begun is None else [begun])]

@@ -11,6 +11,7 @@ import dataclasses
 import hashlib
 import os
 import pathlib
+import time
 
 import pandas
 
@@ -75,12 +76,20 @@ def page(files, prefixes, *, since=None, until=None, title=None, names=None, vrp
         task = everyone and pool.submit(everyone.frame)
         try:
             history = _whole(run, since)
+            _check(history, asked)
         except BaseException:
-            if everyone and everyone.child:
-                everyone.child.kill()
+            _end(everyone, task)
             raise
         source = Source(asked, run.summary.files, run.summary.damaged, task and task.result())
     return page_of(history, since=since, until=until, title=title, names=names, vrps=vrps, source=source)
+
+
+def _end(run, task):
+    """Ends a run in a thread, whether its program has begun or not."""
+    while task and not task.done():
+        if run.child:
+            run.child.kill()
+        time.sleep(0.01)
 
 
 def listed(prefixes):
@@ -99,15 +108,19 @@ def _whole(run, since):
     return frames.joined(pieces)
 
 
+def _check(history, asked):
+    if not len(history):
+        raise ValueError(f"no route of {several(map(wanted, asked))} is in these files: name other prefixes "
+                         "(192.0.2.0/24+ has its more-specifics, 192.0.2.0/24- what contains it) or another family")
+
+
 def page_of(history, *, since=None, until=None, title=None, names=None, vrps=None, source=None):
     """The page of a frame of `history`, from the RIB dump on, as `plots.spans` takes it; see `page`, and `Source`."""
     import jinja2
     from . import __version__
 
     source = source or Source()
-    if not len(history):
-        raise ValueError(f"no route of {several(map(wanted, source.asked))} is in these files: name other prefixes "
-                         "(192.0.2.0/24+ has its more-specifics, 192.0.2.0/24- what contains it) or another family")
+    _check(history, source.asked)
     begun, ended = source.ends()
     incident = Incident(history, since, ended if until is None else until, begun, source.asked, source.everyone)
     names, known = names_of(names), vrps and Vrps(vrps, incident.prefixes)
@@ -120,7 +133,7 @@ def page_of(history, *, since=None, until=None, title=None, names=None, vrps=Non
                               lstrip_blocks=True, undefined=jinja2.StrictUndefined)
     made.filters |= {
         "count": count, "several": several, "wanted": wanted, "name_of": incident.name,
-        "clock": lambda time: f"{time:%H:%M:%S}" if time.date() == incident.start.date() else f"{time:%F %T}",
+        "clock": lambda at: f"{at:%H:%M:%S}" if at.date() == incident.start.date() else f"{at:%F %T}",
         "named": lambda origin: names.get(int(origin[2:])) if origin != NO_AS else None}
     return made.get_template("page.html").render(
         title=title or f"What happened to {several(map(wanted, source.asked or incident.prefixes), 3)}",
@@ -155,8 +168,8 @@ def wanted(prefix):
     return prefix[:-1] + words[prefix[-1]] if prefix[-1:] in words else prefix
 
 
-def length(time):
+def length(span):
     """How long it is, in its two largest units."""
-    seconds = int(time.total_seconds())
+    seconds = int(span.total_seconds())
     units = [(seconds // 86400, "d"), (seconds // 3600 % 24, "h"), (seconds // 60 % 60, "min"), (seconds % 60, "s")]
     return " ".join([f"{number} {unit}" for number, unit in units if number][:2]) or "0 s"

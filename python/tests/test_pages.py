@@ -6,6 +6,7 @@ import re
 import stat
 import subprocess
 import sys
+import time
 
 import bgp_replay
 import pandas
@@ -203,6 +204,17 @@ def test_of_how_many_is_left_out(sample, tmp_path):
     with subprocess.Popen(["sh", "-c", f"cat {sample[0]} > {tmp_path}/pipe"]):
         words = words_of(page_text([tmp_path / "pipe", sample[1]], PREFIX))
     assert "7 → 6 peers with a route of 17.150.214.0/24" in words
+
+
+def test_a_run_that_fails_ends_the_other(stand_in, sample, tmp_path):
+    """The program is ended that would tell of how many peers, which here goes on for ten minutes."""
+    stand_in(f'if [ "$1" = peers ] && [ "$2" != --help ]; then echo $$ > {tmp_path}/number; exec sleep 600; fi; exec "$REAL" "$@"')
+    for prefix, kind, words in [("300.0.0.0/8", bgp_replay.UsageError, "300.0.0.0/8"), ("9.9.9.0/24", ValueError, "name other prefixes")]:
+        begun = time.monotonic()
+        with pytest.raises(kind, match=words):
+            bgp_replay.page(sample, prefix)
+        assert time.monotonic() - begun < 500
+    assert not os.path.exists(f"/proc/{(tmp_path / 'number').read_text().strip()}")
 
 
 def test_names_and_vrps(sample, tmp_path):
