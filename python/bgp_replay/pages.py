@@ -70,7 +70,7 @@ def page(files, prefixes, *, since=None, until=None, title=None, names=None, vrp
     asked, until = listed(prefixes), None if until is None else moment(until)
     options = {"addresses": "short"} | options
     run = Replay("history", files, prefixes=asked, until=until, **options)
-    words = of_peers({"workers": None} | options) | {"until": until, "damaged": "ignore"}
+    words = of_peers(options) | {"until": until, "damaged": "ignore"}
     everyone = None if one_run or not all(map(os.path.isfile, run.files)) else _Everyone("peers", run.files, **words)
     with concurrent.futures.ThreadPoolExecutor(1) as pool:
         task = everyone and pool.submit(everyone.frame)
