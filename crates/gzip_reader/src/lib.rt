@@ -17,9 +17,11 @@
 //! reached, or didn't agree, isn't checked and may be wrong. A file that was cut between two members can't be told
 //! from a whole one.
 //!
-//! What stands to come is unknown to the contracts (`remaining` is `None`). They say how a reader ends, that its
-//! checksums are the CRC-32 of the decoded bytes bit by bit, and that no member is left but by a trailer that agrees
-//! with it. That codes, distances and blocks are those of RFC 1951 is tested only.
+//! What a file unpacks to is `unpacked` in specs/Files.antt, in the words of the RFCs. What stands to come is still
+//! unknown to the contracts (`remaining` is `None`): they say that a symbol, an item and a match are what RFC 1951 says
+//! and that reading from the device loses no bit, how a reader ends, that its checksums are the CRC-32 of the decoded
+//! bytes bit by bit, and that no member is left but by a trailer that agrees with it. That the fast loop, the headers of
+//! blocks and of members and the stored blocks join them as the definitions do is tested only.
 #![tactic(auto)]
 
 mod alphabet;
@@ -31,6 +33,7 @@ mod fault;
 mod gunzip;
 mod huffman;
 mod inflater;
+mod items;
 mod output;
 
 pub use fault::{Fault, Flaw};
