@@ -17,3 +17,5 @@ pub mod RestLaws
 pub mod ShareLaws
 pub mod WindowLaws
 pub mod BlocksLaws
+pub mod FastLaws
+pub mod PlaceLaws

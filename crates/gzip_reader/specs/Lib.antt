@@ -18,4 +18,6 @@ pub mod Taken
 pub mod Steps
 pub mod Fills
 pub mod Views
+pub mod Fast
 pub mod Rest
+pub mod Places

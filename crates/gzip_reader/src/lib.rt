@@ -18,10 +18,11 @@
 //! from a whole one.
 //!
 //! What a file unpacks to is `unpacked` in specs/Files.antt, in the words of the RFCs. What stands to come is still
-//! unknown to the contracts (`remaining` is `None`): they say that a symbol, an item and a match are what RFC 1951 says
-//! and that reading from the device loses no bit, how a reader ends, that its checksums are the CRC-32 of the decoded
-//! bytes bit by bit, and that no member is left but by a trailer that agrees with it. That the fast loop, the headers of
-//! blocks and of members and the stored blocks join them as the definitions do is tested only.
+//! unknown to the contracts (`remaining` is `None`): they say that what is to come of a file from inside a compressed
+//! block is what the decoder gives of it, in the fast loop and with care, that reading from the device loses no bit, how
+//! a reader ends, that its checksums are the CRC-32 of the decoded bytes bit by bit, and that no member is left but by a
+//! trailer that agrees with it. That the headers of blocks and of members and the stored blocks join them as the
+//! definitions do is tested only.
 #![tactic(auto)]
 
 mod alphabet;
