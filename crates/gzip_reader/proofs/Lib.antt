@@ -19,3 +19,5 @@ pub mod WindowLaws
 pub mod BlocksLaws
 pub mod FastLaws
 pub mod PlaceLaws
+pub mod HeaderLaws
+pub mod StoredLaws

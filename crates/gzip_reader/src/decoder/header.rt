@@ -1,6 +1,10 @@
 //! The headers of members (RFC 1952, 2.3), and what stands between members.
 
-ghost use Rattle.std.specs.Prelude.{◌≡◌};
+ghost use Rattle.std.specs.Prelude.{◌≡◌, ◌<◌, ◌≤◌, ◌+◌, ◌++◌, ◌∷◌, [], ℕ, List, true, Ok, Err, IfOk, OnErr};
+ghost use Rattle.gzip_reader.specs.BitFields.{number_at};
+ghost use Rattle.gzip_reader.specs.Crc.{crc};
+ghost use Rattle.gzip_reader.specs.declared.decoder.Phase.TheVariants.{Comment, Extra, ExtraLength, HeaderCheck, Name};
+ghost use Rattle.gzip_reader.specs.declared.fault.Flaw.TheVariants.{Truncated};
 
 use super::{Decoder, Phase, Step};
 use crate::fault::Flaw;
@@ -22,13 +26,26 @@ const RESERVED: u32 = 224;
 const MAGIC: u64 = 0x8b1f;
 
 impl Decoder {
+    ghost use Rattle.gzip_reader.specs.Bits.{bits_left, held};
     ghost use Rattle.gzip_reader.specs.Members.{StaysInside, ComesAfter};
+    ghost use Rattle.gzip_reader.specs.Places.{Advances, IsFresh, ReadsHeader};
 
     /// Takes a byte of the header.
-    fn header_byte(&mut self) -> Result<u32, Flaw> {
-        let byte = self.input.take(8)?;
-        self.header_register = self.tables.step(self.header_register, (byte % 256) as u8);
-        Ok(byte)
+    fn header_byte(&mut self) -> Result<u32, Flaw>
+        ensures byte { IfOk result (λ byte. (byte < 256) × ((more : List ℕ) → number_at 8 (held self.old.input ++ more) ≡ Ok (byte, held self.new.input ++ more))) }
+        ensures register { IfOk result (λ byte. self.new.header_register ≡ crc self.old.header_register (byte ∷ [])) }
+        ensures short { OnErr result ((result ≡ Err Truncated) × (bits_left self.old.input < 8) × (number_at 8 (held self.old.input ++ []) ≡ Err Truncated)) }
+        ensures left { bits_left self.old.input ≤ bits_left self.new.input + 8 }
+        ensures same { ReadsHeader self.old self.new }
+    {
+        match self.input.take(8) {
+            Err(flaw) => Err(flaw),
+            Ok(byte) => {
+                let register = self.header_register;
+                self.header_register = self.tables.step(register, (byte % 256) as u8);
+                Ok(byte)
+            }
+        }
     }
 
     /// The header up to the extra field.
@@ -82,7 +99,9 @@ impl Decoder {
 
     /// The length of the extra field, if there is one.
     pub(super) fn extra_length(&mut self) -> Result<Step, Flaw>
-        ensures { StaysInside result }
+        ensures inside { StaysInside result }
+        ensures advances { (more : List ℕ) → (self.old.input.is_at_end ≡ true → more ≡ []) → Advances self.old self.new ExtraLength more result }
+        ensures same { ReadsHeader self.old self.new }
     {
         if self.flags & FEXTRA == 0 {
             return Ok(Step::To(Phase::Name));
@@ -90,14 +109,20 @@ impl Decoder {
         if !self.input.has(2) {
             return Ok(Step::Pause);
         }
-        let low = self.header_byte()? % 256;
-        let high = self.header_byte()? % 256;
-        Ok(Step::To(Phase::Extra(low + 256 * high)))
+        match self.header_byte() {
+            Err(flaw) => Err(flaw),
+            Ok(low) => match self.header_byte() {
+                Err(flaw) => Err(flaw),
+                Ok(high) => Ok(Step::To(Phase::Extra(low % 256 + 256 * (high % 256)))),
+            },
+        }
     }
 
     /// A byte of the extra field.
     pub(super) fn extra(&mut self, left: u32) -> Result<Step, Flaw>
-        ensures { StaysInside result }
+        ensures inside { StaysInside result }
+        ensures advances { (more : List ℕ) → (self.old.input.is_at_end ≡ true → more ≡ []) → Advances self.old self.new (Extra left) more result }
+        ensures same { ReadsHeader self.old self.new }
     {
         if left == 0 {
             return Ok(Step::To(Phase::Name));
@@ -105,13 +130,17 @@ impl Decoder {
         if !self.input.has(1) {
             return Ok(Step::Pause);
         }
-        self.header_byte()?;
-        Ok(Step::To(Phase::Extra(left - 1)))
+        match self.header_byte() {
+            Err(flaw) => Err(flaw),
+            Ok(_) => Ok(Step::To(Phase::Extra(left - 1))),
+        }
     }
 
     /// A byte of the name, if there is one.
     pub(super) fn name(&mut self) -> Result<Step, Flaw>
-        ensures { StaysInside result }
+        ensures inside { StaysInside result }
+        ensures advances { (more : List ℕ) → (self.old.input.is_at_end ≡ true → more ≡ []) → Advances self.old self.new Name more result }
+        ensures same { ReadsHeader self.old self.new }
     {
         if self.flags & FNAME == 0 {
             return Ok(Step::To(Phase::Comment));
@@ -119,15 +148,18 @@ impl Decoder {
         if !self.input.has(1) {
             return Ok(Step::Pause);
         }
-        if self.header_byte()? == 0 {
-            return Ok(Step::To(Phase::Comment));
+        match self.header_byte() {
+            Err(flaw) => Err(flaw),
+            Ok(0) => Ok(Step::To(Phase::Comment)),
+            Ok(_) => Ok(Step::To(Phase::Name)),
         }
-        Ok(Step::To(Phase::Name))
     }
 
     /// A byte of the comment, if there is one.
     pub(super) fn comment(&mut self) -> Result<Step, Flaw>
-        ensures { StaysInside result }
+        ensures inside { StaysInside result }
+        ensures advances { (more : List ℕ) → (self.old.input.is_at_end ≡ true → more ≡ []) → Advances self.old self.new Comment more result }
+        ensures same { ReadsHeader self.old self.new }
     {
         if self.flags & FCOMMENT == 0 {
             return Ok(Step::To(Phase::HeaderCheck));
@@ -135,15 +167,18 @@ impl Decoder {
         if !self.input.has(1) {
             return Ok(Step::Pause);
         }
-        if self.header_byte()? == 0 {
-            return Ok(Step::To(Phase::HeaderCheck));
+        match self.header_byte() {
+            Err(flaw) => Err(flaw),
+            Ok(0) => Ok(Step::To(Phase::HeaderCheck)),
+            Ok(_) => Ok(Step::To(Phase::Comment)),
         }
-        Ok(Step::To(Phase::Comment))
     }
 
     /// The check of the header, if there is one: the lower half of its CRC-32.
     pub(super) fn header_check(&mut self) -> Result<Step, Flaw>
-        ensures { StaysInside result }
+        ensures inside { StaysInside result }
+        ensures advances { (more : List ℕ) → IsFresh self.old → (self.old.input.is_at_end ≡ true → more ≡ []) → Advances self.old self.new HeaderCheck more result }
+        ensures same { ReadsHeader self.old self.new }
     {
         if self.flags & FHCRC == 0 {
             return Ok(Step::To(Phase::BlockHeader));
@@ -151,10 +186,12 @@ impl Decoder {
         if !self.input.has(2) {
             return Ok(Step::Pause);
         }
-        let check = self.input.take(16)?;
-        if check != (self.header_register ^ u32::MAX) % 0x1_0000 {
-            return Err(Flaw::HeaderCheck);
+        match self.input.take(16) {
+            Err(flaw) => Err(flaw),
+            Ok(check) if check == (self.header_register ^ u32::MAX) % 0x1_0000 => {
+                Ok(Step::To(Phase::BlockHeader))
+            }
+            Ok(_) => Err(Flaw::HeaderCheck),
         }
-        Ok(Step::To(Phase::BlockHeader))
     }
 }
