@@ -21,3 +21,4 @@ pub mod FastLaws
 pub mod PlaceLaws
 pub mod HeaderLaws
 pub mod StoredLaws
+pub mod TrailerLaws
