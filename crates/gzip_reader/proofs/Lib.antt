@@ -22,3 +22,4 @@ pub mod PlaceLaws
 pub mod HeaderLaws
 pub mod StoredLaws
 pub mod TrailerLaws
+pub mod StartLaws

@@ -1,9 +1,11 @@
 //! The headers of members (RFC 1952, 2.3), and what stands between members.
 
-ghost use Rattle.std.specs.Prelude.{◌≡◌, ◌<◌, ◌≤◌, ◌+◌, ◌++◌, ◌∷◌, [], ℕ, List, true, Ok, Err, IfOk, OnErr};
+ghost use Rattle.std.specs.Prelude.{◌≡◌, ◌<◌, ◌≤◌, ◌+◌, ◌*◌, ◌++◌, ◌∷◌, [], ℕ, List, true, false, Ok, Err, IfOk, OnErr};
 ghost use Rattle.gzip_reader.specs.BitFields.{number_at};
 ghost use Rattle.gzip_reader.specs.Crc.{crc};
-ghost use Rattle.gzip_reader.specs.declared.decoder.Phase.TheVariants.{Comment, Extra, ExtraLength, HeaderCheck, Name};
+ghost use Rattle.gzip_reader.specs.Files.{fixed_byte, flags_at, header_at, no_bytes, skip_bytes};
+ghost use Rattle.gzip_reader.specs.declared.decoder.Step.TheVariants.{To};
+ghost use Rattle.gzip_reader.specs.declared.decoder.Phase.TheVariants.{Comment, Extra, ExtraLength, HeaderCheck, Member, Name};
 ghost use Rattle.gzip_reader.specs.declared.fault.Flaw.TheVariants.{Truncated};
 
 use super::{Decoder, Phase, Step};
@@ -28,7 +30,7 @@ const MAGIC: u64 = 0x8b1f;
 impl Decoder {
     ghost use Rattle.gzip_reader.specs.Bits.{bits_left, held};
     ghost use Rattle.gzip_reader.specs.Members.{StaysInside, ComesAfter};
-    ghost use Rattle.gzip_reader.specs.Places.{Advances, IsFresh, ReadsHeader};
+    ghost use Rattle.gzip_reader.specs.Places.{Advances, IsFresh, ReadsHeader, TakesField, TakesFlags, TakesMethod};
 
     /// Takes a byte of the header.
     fn header_byte(&mut self) -> Result<u32, Flaw>
@@ -48,32 +50,101 @@ impl Decoder {
         }
     }
 
+    /// Takes a byte of the header that has to be this one.
+    fn fixed_byte(&mut self, value: u32, flaw: Flaw) -> Result<(), Flaw>
+        ensures field { (more : List ℕ) → (self.old.input.is_at_end ≡ true → more ≡ []) → (self.old.input.is_at_end ≡ false → 8 ≤ bits_left self.old.input)
+            → TakesField result self.new more (fixed_byte value flaw self.old.header_register (held self.old.input ++ more)) }
+        ensures left { bits_left self.old.input ≤ bits_left self.new.input + 8 }
+        ensures same { ReadsHeader self.old self.new }
+    {
+        match self.header_byte() {
+            Err(short) => Err(short),
+            Ok(byte) if byte == value => Ok(()),
+            Ok(_) => Err(flaw),
+        }
+    }
+
+    /// Takes bytes of the header that say nothing about the data.
+    fn skip_bytes(&mut self, count: u32) -> Result<(), Flaw>
+        ensures field { (more : List ℕ) → (self.old.input.is_at_end ≡ true → more ≡ []) → (self.old.input.is_at_end ≡ false → 8 * count ≤ bits_left self.old.input)
+            → TakesField result self.new more (skip_bytes count self.old.header_register (held self.old.input ++ more)) }
+        ensures same { ReadsHeader self.old self.new }
+    {
+        for taken in 0..count {
+            match self.header_byte() {
+                Err(flaw) => return Err(flaw),
+                Ok(_) => {}
+            }
+        }
+        Ok(())
+    }
+
+    /// Takes ID1, ID2 and CM.
+    fn method(&mut self) -> Result<(), Flaw>
+        requires { self.old.header_register ≡ no_bytes }
+        ensures header { (more : List ℕ) → (self.old.input.is_at_end ≡ true → more ≡ []) → (self.old.input.is_at_end ≡ false → 24 ≤ bits_left self.old.input)
+            → TakesMethod result self.new more (header_at (held self.old.input ++ more)) }
+        ensures left { bits_left self.old.input ≤ bits_left self.new.input + 24 }
+        ensures same { ReadsHeader self.old self.new }
+    {
+        match self.fixed_byte(0x1f, Flaw::Magic) {
+            Err(flaw) => Err(flaw),
+            Ok(_) => match self.fixed_byte(0x8b, Flaw::Magic) {
+                Err(flaw) => Err(flaw),
+                Ok(_) => self.fixed_byte(8, Flaw::Method),
+            },
+        }
+    }
+
+    /// Takes the flags, and the bytes up to the extra field.
+    fn header_flags(&mut self) -> Result<u32, Flaw>
+        ensures header { (more : List ℕ) → (self.old.input.is_at_end ≡ true → more ≡ []) → (self.old.input.is_at_end ≡ false → 56 ≤ bits_left self.old.input)
+            → TakesFlags result self.new more (flags_at self.old.header_register (held self.old.input ++ more)) }
+        ensures same { ReadsHeader self.old self.new }
+    {
+        match self.header_byte() {
+            Err(flaw) => Err(flaw),
+            Ok(flags) if flags & RESERVED != 0 => Err(Flaw::Flags),
+            Ok(flags) => match self.skip_bytes(6) {
+                Err(flaw) => Err(flaw),
+                Ok(_) => Ok(flags),
+            },
+        }
+    }
+
     /// The header up to the extra field.
     pub(super) fn start_member(&mut self) -> Result<Step, Flaw>
-        ensures { StaysInside result }
+        ensures inside { StaysInside result }
+        ensures advances { (more : List ℕ) → (self.old.input.is_at_end ≡ true → more ≡ []) → Advances self.old self.new Member more result }
+        ensures fresh { IfOk result (λ step. step ≡ To ExtraLength → IsFresh self.new) }
     {
         if !self.input.has(HEADER) {
             return Ok(Step::Pause);
         }
         self.header_register = u32::MAX;
-        if self.header_byte()? != 0x1f || self.header_byte()? != 0x8b {
-            return Err(Flaw::Magic);
+        match self.method() {
+            Err(flaw) => Err(flaw),
+            Ok(_) => match self.header_flags() {
+                Err(flaw) => Err(flaw),
+                Ok(flags) => {
+                    self.start_data(flags);
+                    Ok(Step::To(Phase::ExtraLength))
+                }
+            },
         }
-        if self.header_byte()? != 8 {
-            return Err(Flaw::Method);
-        }
-        let flags = self.header_byte()?;
-        if flags & RESERVED != 0 {
-            return Err(Flaw::Flags);
-        }
-        for _ in 0..6 {
-            self.header_byte()?;
-        }
+    }
+
+    /// Begins the data of a member whose header has these flags.
+    fn start_data(&mut self, flags: u32)
+        ensures fresh { IsFresh self.new }
+        ensures flags { self.new.flags ≡ flags }
+        ensures same { (self.new.input ≡ self.old.input) × (self.new.header_register ≡ self.old.header_register) }
+        ensures output { (self.new.output.bytes ≡ self.old.output.bytes) × (self.new.output.filled ≡ self.old.output.filled) }
+    {
         self.flags = flags;
         self.register = u32::MAX;
         self.count = 0;
         self.output.start_member();
-        Ok(Step::To(Phase::ExtraLength))
     }
 
     /// What follows a member: another one, zero bytes, or the end.
