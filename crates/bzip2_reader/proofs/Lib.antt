@@ -1,4 +1,21 @@
 pub mod BitLaws
+pub mod BlockLaws
 pub mod ChecksumLaws
+pub mod CodeLaws
+pub mod ColumnLaws
+pub mod DecodeLaws
+mod Examples
+pub mod FieldLaws
 pub mod LinkLaws
+pub mod MoveLaws
+pub mod OrderLaws
+pub mod ReadLaws
+pub mod RowLaws
 pub mod RunLaws
+pub mod SelectorLaws
+pub mod SizeLaws
+pub mod SmallLaws
+pub mod SymbolReads
+pub mod TableLaws
+pub mod UsedLaws
+pub mod WordLaws

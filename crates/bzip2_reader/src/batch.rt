@@ -1,8 +1,11 @@
 // Blocks that are decoded side by side.
 ghost use denote.Param.Send.{IsSync};
-ghost use Rattle.std.specs.Prelude.{◌≡◌, ◌≤◌, ◌+◌, ◌*◌, ℕ, IfOk};
+ghost use Rattle.std.specs.Prelude.{◌≡◌, ◌≤◌, ◌+◌, ◌*◌, ◌^◌, ℕ, IfOk, length, vec_len};
+ghost use Rattle.bzip2_reader.specs.Fields.{bits_of};
+ghost use Rattle.bzip2_reader.specs.Texts.{IsText};
 ghost use Rattle.bzip2_reader.specs.Bits.{bits_at};
 
+use crate::bits::MOST_BYTES;
 use crate::block::{MOST_SIZE, Text, read_text};
 use crate::codes::Codes;
 use crate::fault::BlockFault;
@@ -37,7 +40,13 @@ impl Lane {
         ensures start { self.new.start ≡ self.old.start }
         ensures named { IfOk self.new.text (λ t. t.checksum ≡ bits_at bytes.now (self.old.start + 48) 32) }
         ensures size { IfOk self.new.text (λ t. t.size ≤ 900000) }
+        ensures block { length bytes.now ≤ 2 ^ 40 → vec_len self.old.links ≡ 900000 →
+            IsText (bits_of bytes.now) self.old.start self.new.text self.new.links.items }
     {
+        if bytes.len() > MOST_BYTES || self.links.len() != MOST_SIZE {
+            self.text = Err(BlockFault::ShortBlock);
+            return;
+        }
         self.text = read_text(codes, self.links.as_mut_slice(), bytes, self.start);
     }
 

@@ -1,12 +1,17 @@
 // One block.
-ghost use Rattle.std.specs.Prelude.{◌≡◌, ◌<◌, ◌≤◌, ◌+◌, ◌*◌, ◌^◌, ℕ, length, take, drop, IfOk, vec_len};
+ghost use Rattle.std.specs.Prelude.{◌≡◌, ◌<◌, ◌≤◌, ◌+◌, ◌*◌, ◌^◌, ℕ, length, List, take, drop, Ok, Err, IfErr, IfOk, OnOk, vec_len};
 ghost use Rattle.bzip2_reader.specs.Bits.{bits_at};
+ghost use Rattle.bzip2_reader.specs.Blocks.{block_at, block_head_at, rows_at};
+ghost use Rattle.bzip2_reader.specs.Heads.{head_of};
+ghost use Rattle.bzip2_reader.specs.Cursors.{bits_left};
+ghost use Rattle.bzip2_reader.specs.Fields.{Gives, Takes, bits_of, number};
+ghost use Rattle.bzip2_reader.specs.Links.{AreLinks, AreSmall, IsWalk};
 ghost use Rattle.bzip2_reader.specs.Checksums.{checksum_of};
 ghost use Rattle.bzip2_reader.specs.Runs.{IsSettled, IsWithin, count_written, written};
 
 use crate::bits::Cursor;
 use crate::checksum::Checksums;
-use crate::codes::{Codes, read_codes, read_selectors};
+use crate::codes::{Codes, read_selectors, read_tables};
 use crate::fault::{BlockFault, Cause};
 use crate::runs::Runs;
 use crate::scan::MAGIC;
@@ -24,14 +29,26 @@ struct Head {
     origin: u32,
 }
 
-/// Reads the head: 48 bits, the checksum, the bit of shuffled blocks, and the place of the first byte.
-fn read_head(cursor: &mut Cursor<'_>) -> Result<Head, BlockFault>
+/// Reads 48 bits.
+fn read_magic(cursor: &mut Cursor<'_>) -> Result<u64, BlockFault>
     ensures bytes { cursor.new.bytes.now ≡ cursor.old.bytes.now }
-    ensures named { IfOk result (λ h. h.checksum ≡ bits_at cursor.old.bytes.now (cursor.old.at + 48) 32) }
+    ensures moves { OnOk result (cursor.new.at ≡ cursor.old.at + 48) }
+    ensures takes { Takes (λ n. n) result (bits_left cursor.new) (number 48 (bits_left cursor.old)) }
 {
     let high = cursor.take(24)?;
     let low = cursor.take(24)?;
-    if (u64::from(high) << 24) | u64::from(low) != MAGIC {
+    Ok(u64::from(high) * 0x100_0000 + u64::from(low))
+}
+
+/// Reads the head: 48 bits, the checksum, the bit of shuffled blocks, and the place of the first byte.
+#[tactic(auto, unfolding(crate::specs::Blocks::block_head_at))]
+fn read_head(cursor: &mut Cursor<'_>) -> Result<Head, BlockFault>
+    ensures bytes { cursor.new.bytes.now ≡ cursor.old.bytes.now }
+    ensures named { IfOk result (λ h. h.checksum ≡ bits_at cursor.old.bytes.now (cursor.old.at + 48) 32) }
+    ensures takes { Takes head_of result (bits_left cursor.new) (block_head_at (bits_left cursor.old)) }
+{
+    let magic = read_magic(cursor)?;
+    if magic != MAGIC {
         return Err(BlockFault::NoBlock);
     }
     let checksum = cursor.take(32)?;
@@ -43,12 +60,17 @@ fn read_head(cursor: &mut Cursor<'_>) -> Result<Head, BlockFault>
 }
 
 /// Reads the symbols of a block into the low bytes of links, and returns how many there are.
+#[tactic(auto, unfolding(crate::specs::Blocks::rows_at))]
 fn read_symbols(
     cursor: &mut Cursor<'_>,
     codes: &mut Codes,
     links: &mut [u32],
 ) -> Result<usize, BlockFault>
+    requires room { length links.old ≡ 900000 }
+    ensures bytes { OnOk result (cursor.new.bytes.now ≡ cursor.old.bytes.now) }
     ensures within { IfOk result (λ n. n ≤ length links.new) }
+    ensures small { IfOk result (λ n. AreSmall (take n links.new)) }
+    ensures takes { Takes (λ n. take n links.new) result (bits_left cursor.new) (rows_at (bits_left cursor.old)) }
 {
     let mut order = [0u8; 256];
     let used = read_used(cursor, &mut order)?;
@@ -60,19 +82,17 @@ fn read_symbols(
         return Err(BlockFault::BadTables);
     }
     read_selectors(cursor, tables, codes)?;
-    for table in 0..tables {
-        read_codes(cursor, codes, table, used + 2)?;
-    }
+    read_tables(cursor, codes, tables, used + 2)?;
     let decoded = decode_symbols(
         cursor.bytes,
         cursor.at,
-        codes,
+        codes.tables(),
         codes.selectors(),
         &mut order,
-        (used + 1) as u16,
+        used,
         links,
     )?;
-    cursor.move_to(decoded.end)?;
+    cursor.move_to(decoded.end);
     Ok(decoded.count)
 }
 
@@ -89,33 +109,37 @@ pub(crate) struct Text {
     pub(crate) end: usize,
 }
 
-/// Reads the block that begins at this bit into links.
+/// Reads the block that begins at this bit into links: the bytes that walk them from the first on are its text.
 pub(crate) fn read_text(
     codes: &mut Codes,
     links: &mut [u32],
     bytes: &[u8],
     at: usize,
 ) -> Result<Text, BlockFault>
+    requires short { length bytes.now ≤ 2 ^ 40 }
+    requires room { length links.old ≡ 900000 }
     ensures named { IfOk result (λ t. t.checksum ≡ bits_at bytes.now (at + 48) 32) }
     ensures size { IfOk result (λ t. t.size ≤ 900000) }
+    ensures block { IfOk result (λ t. (raw : List ℕ) → length raw ≡ t.size → IsWalk links.new t.first raw →
+        block_at (drop at (bits_of bytes.now))
+        ≡ Ok (record { checksum = t.checksum; text = raw }, drop t.end (bits_of bytes.now))) }
+    ensures fault { IfErr result (λ e. block_at (drop at (bits_of bytes.now)) ≡ Err e) }
 {
     let Some(mut cursor) = Cursor::new(bytes, at) else {
         return Err(BlockFault::ShortBlock);
     };
     let head = read_head(&mut cursor)?;
     let size = read_symbols(&mut cursor, codes, links)?;
-    if size > MOST_SIZE {
-        return Err(BlockFault::LongBlock);
-    }
     let links = &mut links[..size];
     link(links);
-    let Some(first) = links.get(head.origin as usize) else {
+    let origin = head.origin as usize;
+    if origin >= links.len() {
         return Err(BlockFault::BadOrigin);
-    };
+    }
     Ok(Text {
         checksum: head.checksum,
         size,
-        first: *first >> 8,
+        first: links[origin] >> 8,
         end: cursor.at,
     })
 }

@@ -48,11 +48,14 @@ mod checksum;
 mod codes;
 mod fault;
 mod front;
+mod moves;
+mod order;
 mod phase;
 mod reader;
 mod runs;
 mod scan;
 mod symbols;
+mod table;
 mod transform;
 mod window;
 
