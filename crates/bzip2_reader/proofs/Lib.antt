@@ -6,6 +6,7 @@ pub mod ColumnLaws
 pub mod DecodeLaws
 mod Examples
 pub mod FieldLaws
+pub mod LaneLaws
 pub mod LinkLaws
 pub mod MoveLaws
 pub mod OrderLaws

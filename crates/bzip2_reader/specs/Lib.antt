@@ -9,6 +9,8 @@ pub mod Fields
 pub mod Files
 pub mod Fronts
 pub mod Heads
+pub mod Jobs
+pub mod Lanes
 pub mod Links
 pub mod Orders
 pub mod Reading

@@ -1,16 +1,17 @@
 // Blocks that are decoded side by side.
 ghost use denote.Param.Send.{IsSync};
-ghost use Rattle.std.specs.Prelude.{◌≡◌, ◌≤◌, ◌+◌, ◌*◌, ◌^◌, ℕ, IfOk, length, vec_len};
+ghost use Rattle.std.specs.Prelude.{◌≡◌, ◌≤◌, ◌+◌, ◌*◌, ◌^◌, ℕ, List, All, IfOk, length, vec_len};
 ghost use Rattle.bzip2_reader.specs.Fields.{bits_of};
-ghost use Rattle.bzip2_reader.specs.Texts.{IsText};
-ghost use Rattle.bzip2_reader.specs.Bits.{bits_at};
+ghost use Rattle.bzip2_reader.specs.Jobs.{HasRun};
+ghost use Rattle.bzip2_reader.specs.Lanes.{IsDecoded, IsRead};
+ghost use Rattle.bzip2_reader.specs.Texts.{first_link, text_size};
 
 use crate::bits::MOST_BYTES;
 use crate::block::{MOST_SIZE, Text, read_text};
 use crate::codes::Codes;
 use crate::fault::BlockFault;
 use crate::scan::next_block;
-use crate::transform::{Chain, walk, walk_four};
+use crate::transform::{Chain, walk_front, walk_fronts};
 use std::alloc::{AllocError, Global};
 use std::thread::{Threads, map_vec};
 
@@ -19,64 +20,149 @@ pub(crate) const LANES: usize = 4;
 
 /// A block, or what may be one.
 #[derive(Drop)]
-struct Lane {
-    /// The bit at which it begins.
-    start: usize,
-    text: Result<Text, BlockFault>,
+pub(crate) struct Lane {
+    /// The bit at which it begins, if the lane has one.
+    start: Option<usize>,
+    /// What was read there, if anything was.
+    text: Option<Result<Text, BlockFault>>,
     links: Vec<u32>,
+    /// The bytes of the block before its runs are written out, and behind them any others.
+    raw: Vec<u8>,
+}
+
+/// How many bytes a block has before its runs are written out, and none if it has a fault.
+fn size_of(text: Option<Result<Text, BlockFault>>) -> usize
+    ensures { result ≡ text_size text }
+{
+    match text {
+        Some(Ok(text)) => text.size,
+        _ => 0,
+    }
+}
+
+/// The link of a block's first byte.
+fn first_of(text: Option<Result<Text, BlockFault>>) -> u32
+    ensures { result ≡ first_link text }
+{
+    match text {
+        Some(Ok(text)) => text.first,
+        _ => 0,
+    }
 }
 
 impl Lane {
     fn new(alloc: Global) -> Lane {
         Lane {
-            start: 0,
-            text: Err(BlockFault::NoBlock),
+            start: None,
+            text: None,
             links: Vec::new(alloc),
+            raw: Vec::new(alloc),
         }
     }
 
-    /// Reads the block.
+    /// Gives it this place, and returns the next one at which a block may begin, if it is before this end.
+    fn deal(&mut self, bytes: &[u8], place: Option<usize>, end: usize) -> Option<usize> {
+        self.start = place;
+        next_block(bytes, place?.saturating_add(1)).filter(|next| *next < end)
+    }
+
+    /// Makes the memory for a block.
+    fn make_room(&mut self) -> Result<(), AllocError> {
+        if self.links.len() < MOST_SIZE {
+            self.links.resize(MOST_SIZE, 0)?;
+        }
+        if self.raw.len() < MOST_SIZE {
+            self.raw.resize(MOST_SIZE, 0)?;
+        }
+        Ok(())
+    }
+
+    /// Reads the block, if there is one and room for it.
     fn read(&mut self, codes: &mut Codes, bytes: &[u8])
-        ensures start { self.new.start ≡ self.old.start }
-        ensures named { IfOk self.new.text (λ t. t.checksum ≡ bits_at bytes.now (self.old.start + 48) 32) }
-        ensures size { IfOk self.new.text (λ t. t.size ≤ 900000) }
-        ensures block { length bytes.now ≤ 2 ^ 40 → vec_len self.old.links ≡ 900000 →
-            IsText (bits_of bytes.now) self.old.start self.new.text self.new.links.items }
+        ensures { IsRead (bits_of bytes.now) self.new }
     {
+        self.text = None;
         if bytes.len() > MOST_BYTES || self.links.len() != MOST_SIZE {
-            self.text = Err(BlockFault::ShortBlock);
             return;
         }
-        self.text = read_text(codes, self.links.as_mut_slice(), bytes, self.start);
-    }
-
-    /// How many bytes the block has before its runs are written out, and none if it has a fault.
-    fn size(&self) -> usize {
-        match self.text {
-            Ok(text) => text.size,
-            Err(_) => 0,
+        if let Some(start) = self.start {
+            self.text = Some(read_text(codes, self.links.as_mut_slice(), bytes, start));
         }
     }
 
-    fn chain(&self) -> Chain<'_> {
-        let first = match self.text {
-            Ok(text) => text.first,
-            Err(_) => 0,
-        };
+    /// Walks its links.
+    fn walk(&mut self)
+        ensures { (bits : List ℕ) → IsRead bits self.old → IsDecoded bits self.new }
+    {
+        let size = size_of(self.text);
+        if size > self.raw.len() {
+            self.text = None;
+            return;
+        }
+        let first = first_of(self.text);
+        let links = self.links.as_slice();
+        walk_front(Chain { links, first }, size, self.raw.as_mut_slice());
+    }
+}
+
+/// Walks the links of four lanes side by side, as far as the longest block needs.
+fn walk_all(a: &mut Lane, b: &mut Lane, c: &mut Lane, d: &mut Lane)
+    ensures first { (bits : List ℕ) → IsRead bits a.old → IsDecoded bits a.new }
+    ensures second { (bits : List ℕ) → IsRead bits b.old → IsDecoded bits b.new }
+    ensures third { (bits : List ℕ) → IsRead bits c.old → IsDecoded bits c.new }
+    ensures fourth { (bits : List ℕ) → IsRead bits d.old → IsDecoded bits d.new }
+{
+    if b.text.is_none() && c.text.is_none() && d.text.is_none() {
+        a.walk();
+        return;
+    }
+    let most = size_of(a.text)
+        .max(size_of(b.text))
+        .max(size_of(c.text))
+        .max(size_of(d.text));
+    if a.raw.len() < most || b.raw.len() < most || c.raw.len() < most || d.raw.len() < most {
+        a.text = None;
+        b.text = None;
+        c.text = None;
+        d.text = None;
+        return;
+    }
+    let chains = (
         Chain {
-            links: self.links.as_slice(),
-            first,
-        }
-    }
+            links: a.links.as_slice(),
+            first: first_of(a.text),
+        },
+        Chain {
+            links: b.links.as_slice(),
+            first: first_of(b.text),
+        },
+        Chain {
+            links: c.links.as_slice(),
+            first: first_of(c.text),
+        },
+        Chain {
+            links: d.links.as_slice(),
+            first: first_of(d.text),
+        },
+    );
+    walk_fronts(
+        chains,
+        most,
+        a.raw.as_mut_slice(),
+        b.raw.as_mut_slice(),
+        c.raw.as_mut_slice(),
+        d.raw.as_mut_slice(),
+    );
 }
 
 /// What one thread decodes.
 #[derive(Drop)]
 pub struct Job {
     codes: Codes,
-    lanes: [Lane; 4],
-    /// The bytes of the lanes' blocks before their runs are written out, 900,000 places for each.
-    raws: Vec<u8>,
+    first: Lane,
+    second: Lane,
+    third: Lane,
+    fourth: Lane,
     /// How many lanes have a block.
     dealt: usize,
 }
@@ -85,27 +171,36 @@ impl Job {
     pub(crate) fn new(alloc: Global) -> Job {
         Job {
             codes: Codes::new(),
-            lanes: [
-                Lane::new(alloc),
-                Lane::new(alloc),
-                Lane::new(alloc),
-                Lane::new(alloc),
-            ],
-            raws: Vec::new(alloc),
+            first: Lane::new(alloc),
+            second: Lane::new(alloc),
+            third: Lane::new(alloc),
+            fourth: Lane::new(alloc),
             dealt: 0,
+        }
+    }
+
+    fn lane(&self, number: usize) -> Option<&Lane> {
+        match number {
+            0 => Some(&self.first),
+            1 => Some(&self.second),
+            2 => Some(&self.third),
+            3 => Some(&self.fourth),
+            _ => None,
         }
     }
 
     /// The block of this lane: where it begins, and what it is.
     pub(crate) fn text(&self, lane: usize) -> Option<(usize, Result<Text, BlockFault>)> {
-        let lane = self.lanes.get(lane)?;
-        Some((lane.start, lane.text))
+        let lane = self.lane(lane)?;
+        Some((lane.start?, lane.text?))
     }
 
     /// The first bytes of this lane's block before its runs are written out.
     pub(crate) fn raw(&self, lane: usize, size: usize) -> &[u8] {
-        let from = lane.saturating_mul(MOST_SIZE);
-        match self.raws.as_slice().get(from..from.saturating_add(size)) {
+        let Some(lane) = self.lane(lane) else {
+            return &[];
+        };
+        match lane.raw.as_slice().get(..size) {
             Some(raw) => raw,
             None => &[],
         }
@@ -113,14 +208,13 @@ impl Job {
 
     /// Makes the memory for its blocks: for one, or for as many as can be walked at a time.
     fn make_room(&mut self) -> Result<(), AllocError> {
-        let count = if self.dealt < 2 { self.dealt } else { LANES };
-        for lane in self.lanes.iter_mut().take(count) {
-            if lane.links.len() < MOST_SIZE {
-                lane.links.resize(MOST_SIZE, 0)?;
-            }
+        if self.dealt > 0 {
+            self.first.make_room()?;
         }
-        if self.raws.len() < count * MOST_SIZE {
-            self.raws.resize(count * MOST_SIZE, 0)?;
+        if self.dealt > 1 {
+            self.second.make_room()?;
+            self.third.make_room()?;
+            self.fourth.make_room()?;
         }
         Ok(())
     }
@@ -133,60 +227,42 @@ impl Job {
         from: Option<usize>,
         end: usize,
     ) -> Result<Option<usize>, AllocError> {
-        let mut place = from;
-        self.dealt = 0;
-        for lane in self.lanes.iter_mut() {
-            let Some(start) = place else {
-                break;
-            };
-            lane.start = start;
-            self.dealt = self.dealt.saturating_add(1);
-            place = next_block(bytes, start.saturating_add(1)).filter(|next| *next < end);
-        }
+        let second = self.first.deal(bytes, from, end);
+        let third = self.second.deal(bytes, second, end);
+        let fourth = self.third.deal(bytes, third, end);
+        let after = self.fourth.deal(bytes, fourth, end);
+        self.dealt = [from, second, third, fourth]
+            .iter()
+            .filter(|place| place.is_some())
+            .count();
         self.make_room()?;
-        Ok(place)
+        Ok(after)
     }
 
-    /// Walks the first lane alone.
-    fn walk_one(&mut self) {
-        let [a, _, _, _] = &self.lanes;
-        let size = a.size().min(self.raws.len());
-        walk(a.chain(), &mut self.raws.as_mut_slice()[..size]);
-    }
-
-    /// Walks all lanes as far as the longest block needs.
-    fn walk_all(&mut self) {
-        let [a, b, c, d] = &self.lanes;
-        let most = a.size().max(b.size()).max(c.size()).max(d.size());
-        let raws = self.raws.as_mut_slice();
-        if raws.len() < LANES * MOST_SIZE || most > MOST_SIZE {
-            return;
-        }
-        let (p, rest) = raws.split_at_mut(MOST_SIZE);
-        let (q, rest) = rest.split_at_mut(MOST_SIZE);
-        let (r, s) = rest.split_at_mut(MOST_SIZE);
-        walk_four(
-            (a.chain(), b.chain(), c.chain(), d.chain()),
-            &mut p[..most],
-            &mut q[..most],
-            &mut r[..most],
-            &mut s[..most],
-        );
+    /// Reads the blocks of its lanes.
+    fn read(&mut self, bytes: &[u8])
+        ensures first { IsRead (bits_of bytes.now) self.new.first }
+        ensures second { IsRead (bits_of bytes.now) self.new.second }
+        ensures third { IsRead (bits_of bytes.now) self.new.third }
+        ensures fourth { IsRead (bits_of bytes.now) self.new.fourth }
+    {
+        self.first.read(&mut self.codes, bytes);
+        self.second.read(&mut self.codes, bytes);
+        self.third.read(&mut self.codes, bytes);
+        self.fourth.read(&mut self.codes, bytes);
     }
 
     /// Decodes the blocks of its lanes.
-    fn run(mut self, bytes: &[u8]) -> Job {
-        for lane in self.lanes.iter_mut() {
-            lane.text = Err(BlockFault::NoBlock);
-        }
-        for lane in self.lanes.iter_mut().take(self.dealt) {
-            lane.read(&mut self.codes, bytes);
-        }
-        if self.dealt == 1 {
-            self.walk_one();
-        } else {
-            self.walk_all();
-        }
+    fn run(mut self, bytes: &[u8]) -> Job
+        ensures { HasRun (bits_of bytes.now) result }
+    {
+        self.read(bytes);
+        walk_all(
+            &mut self.first,
+            &mut self.second,
+            &mut self.third,
+            &mut self.fourth,
+        );
         self
     }
 }
@@ -203,7 +279,8 @@ pub trait Team {
 
     /// Runs each job over these bytes, in whatever order or side by side, and gives them in order.
     fn run(&self, jobs: Vec<Job>, bytes: &[u8]) -> Result<Vec<Job>, AllocError>
-        requires { is_ready self.now };
+        requires { is_ready self.now }
+        ensures run { IfOk result (λ done. All (HasRun (bits_of bytes.now)) done.items) };
 }
 
 /// Runs jobs in the calling thread.
@@ -264,6 +341,7 @@ pub(crate) fn decode_from<T: Team>(
     end: usize,
 ) -> Result<(Vec<Job>, usize), AllocError>
     requires { T.is_ready team.now }
+    ensures run { IfOk result (λ done. All (HasRun (bits_of bytes.now)) done.0.items) }
 {
     let dealt = deal_all(jobs.as_mut_slice(), bytes, at, end)?;
     let done = team.run(jobs, bytes)?;
