@@ -5,6 +5,9 @@ pub mod CodeLaws
 pub mod ColumnLaws
 pub mod DecodeLaws
 mod Examples
+pub mod FairBlocks
+pub mod FairLaws
+pub mod FairSymbols
 pub mod FieldLaws
 pub mod LaneLaws
 pub mod LinkLaws

@@ -15,6 +15,7 @@ pub mod Links
 pub mod Orders
 pub mod Reading
 pub mod Runs
+pub mod Steady
 pub mod Symbols
 pub mod TableSets
 pub mod Tables
