@@ -13,6 +13,7 @@ pub mod LaneLaws
 pub mod LinkLaws
 pub mod MoveLaws
 pub mod OrderLaws
+pub mod PartLaws
 pub mod ReadLaws
 pub mod RowLaws
 pub mod RunLaws

@@ -1,5 +1,5 @@
 -- What a file of bzip2 streams unpacks to, and how it ends.
-use Rattle.std.specs.Prelude.{ℕ, zero, suc, ◌+◌, ◌-◌, ◌*◌, ◌%◌, Bool, ◌&&◌, List, [], ◌++◌, length, drop, Option, Some, None, Result, Ok, Err, bit_xor, nat_le, ◌==◌, if◌then◌else◌}
+use Rattle.std.specs.Prelude.{ℕ, zero, suc, ◌+◌, ◌-◌, ◌*◌, ◌%◌, Bool, ◌&&◌, List, [], ◌∷◌, ◌++◌, length, drop, Option, Some, None, Result, Ok, Err, bit_xor, nat_le, ◌==◌, if◌then◌else◌}
 use Rattle.std.specs.Int.{rotate_left, w32}
 use Rattle.bzip2_reader.specs.declared.fault.BlockFault.{BlockFault}
 use Rattle.bzip2_reader.specs.declared.fault.BlockFault.TheVariants.{BadChecksum, LongBlock, ShortBlock}
@@ -87,6 +87,12 @@ unpack_from (suc parts) place bits =
 -- All parts from here on. Each takes at least one bit, so there are never more.
 unfoldable pub unpack : Place → List ℕ → Unpacked
 unpack place bits = unpack_from (length bits + 1) place bits
+
+-- something has to come: a part of a stream, or bits
+abbrev pub IsMore : Place → List ℕ → Type 0
+IsMore Between [] = ⊥
+IsMore Between (bit ∷ bits) = Unit {0}
+IsMore (Inside most sum) bits = Unit {0}
 
 -- what a file unpacks to
 abbrev pub unpacked : List ℕ → Unpacked

@@ -1,6 +1,8 @@
 //! The laws of the form. Nothing is computed.
 
-ghost use Rattle.std.specs.Prelude.{ℕ, List};
+ghost use Rattle.std.specs.Prelude.{◌≡◌, ℕ, List, [], Some, None, Ok, Err};
+ghost use Rattle.bzip2_reader.specs.declared.fault.Cause.{Cause as FileCause};
+ghost use Rattle.bzip2_reader.specs.Files.{Between, IsMore, Part, Place, after_part, part_at, unpack};
 ghost use Rattle.bzip2_reader.specs.Blocks.{block_at};
 ghost use Rattle.bzip2_reader.specs.Steady.{IsSteady, TakesSome};
 
@@ -9,4 +11,14 @@ ghost use Rattle.bzip2_reader.specs.Steady.{IsSteady, TakesSome};
 pub fn blocks_stand_alone()
     ensures steady { IsSteady block_at }
     ensures takes { (bits : List ℕ) → TakesSome bits (block_at bits) }
+{}
+
+/// A file is unpacked part by part: the bytes of the next part, and then what comes after it; up to the first part with
+/// which something is wrong, or the end of the last stream.
+pub fn files_unpack_part_by_part()
+    ensures next { (place : Place) (bits : List ℕ) (part : Part) → part_at place bits ≡ Ok part →
+        unpack place bits ≡ after_part part.given (unpack part.next part.rest) }
+    ensures fault { (place : Place) (bits : List ℕ) (cause : FileCause) → IsMore place bits →
+        part_at place bits ≡ Err cause → unpack place bits ≡ record { given = []; damage = Some cause } }
+    ensures end { unpack Between [] ≡ record { given = []; damage = None } }
 {}
