@@ -46,7 +46,7 @@ all_of (suc n) [] h = refl
 all_of (suc n) (x ∷ xs) h = ap (λ l. x ∷ l) (all_of n xs (omega (arith, h)))
 
 -- the items of a vector whose slice was lent whole
-held : (n : ℕ) (new old : List ℕ) → length new ≡ length old → length old ≡ n → take n (new ++ drop (length new) old) ≡ new
+pub held : (n : ℕ) (new old : List ℕ) → length new ≡ length old → length old ≡ n → take n (new ++ drop (length new) old) ≡ new
 held n new old same long =
     ap (λ l. take n (new ++ l)) (drop_of_length-le old (omega (arith, same))) ∙ ap (take n) (append-nil new) ∙ all_of n new (omega (arith, same, long))
 

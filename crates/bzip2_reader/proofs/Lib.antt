@@ -23,4 +23,5 @@ pub mod SmallLaws
 pub mod SymbolReads
 pub mod TableLaws
 pub mod UsedLaws
+pub mod WindowLaws
 pub mod WordLaws

@@ -16,6 +16,7 @@ pub mod Orders
 pub mod Reading
 pub mod Runs
 pub mod Steady
+pub mod Stretches
 pub mod Symbols
 pub mod TableSets
 pub mod Tables

@@ -1,7 +1,11 @@
 // A stretch of a device's bytes.
-ghost use Rattle.std.specs.Prelude.{◌≡◌, ◌≤◌, take, vec_len};
+ghost use Rattle.std.specs.Prelude.{◌≡◌, ◌≤◌, ◌<◌, take, drop, length, vec_len, OnOk};
+ghost use Rattle.std.specs.Io.KnownBytes.{Keeps, ReadConsumes};
+ghost use Rattle.std.specs.Io.{ReadsAtMost};
+ghost use Rattle.bzip2_reader.specs.Stretches.{has_failed, is_last, known_behind, known_whole};
+ghost use Rattle.bzip2_reader.specs.declared.window.Rest.TheVariants.{More};
 
-use mrt_frame::Source;
+use mrt_frame::{Failed, Source};
 use std::alloc::AllocError;
 
 /// How many bytes are read at first.
@@ -13,6 +17,16 @@ enum Rest {
     More,
     None,
     Failed,
+}
+
+/// Reads bytes behind the first ones of this block.
+fn read_behind<D: Source>(device: &mut D, block: &mut [u8], filled: usize) -> Result<usize, Failed>
+    requires { filled ≤ length block.old }
+    ensures front { take filled block.new ≡ take filled block.old }
+    ensures bound { ReadsAtMost result (drop filled block.new) }
+    ensures bytes { ReadConsumes (D.remaining device.old) (D.remaining device.new) result (drop filled block.new) }
+{
+    device.read_some(&mut block[filled..])
 }
 
 /// The next bytes of a device, from the first that is still wanted.
@@ -49,30 +63,53 @@ impl Window {
     }
 
     /// Whether no bytes come after the window's.
-    pub(crate) fn is_last(&self) -> bool {
+    pub(crate) fn is_last(&self) -> bool
+        ensures { result ≡ is_last self.now.rest }
+    {
         self.rest != Rest::More
     }
 
     /// Whether the device failed after the window's bytes.
-    pub(crate) fn has_failed(&self) -> bool {
+    pub(crate) fn has_failed(&self) -> bool
+        ensures { result ≡ has_failed self.now.rest }
+    {
         self.rest == Rest::Failed
     }
 
     /// Makes the block of memory longer, but not longer than this.
-    fn grow(&mut self, size: usize) -> Result<(), AllocError> {
+    fn grow(&mut self, size: usize) -> Result<(), AllocError>
+        requires { (self.old.filled < size) × (self.old.filled ≡ vec_len self.old.block) }
+        ensures front { take self.old.filled self.new.block.items ≡ take self.old.filled self.old.block.items }
+        ensures same { (self.new.filled ≡ self.old.filled) × (self.new.rest ≡ self.old.rest) }
+        ensures room { OnOk result (self.new.filled < vec_len self.new.block) }
+    {
         let more = self.block.len().saturating_mul(2).max(FIRST).min(size);
-        if self.block.len() < more {
-            self.block.resize(more, 0)?;
-        }
-        Ok(())
+        self.block.resize(more, 0)
     }
 
     /// Drops the first bytes.
-    fn drop_front(&mut self, used: usize) {
-        let used = used.min(self.filled);
+    fn drop_front(&mut self, used: usize)
+        requires { used ≤ self.old.filled }
+        ensures left { take self.new.filled self.new.block.items ≡ drop used (take self.old.filled self.old.block.items) }
+        ensures rest { self.new.rest ≡ self.old.rest }
+    {
         self.block.copy_within(used..self.filled, 0);
         self.filled -= used;
         self.before = self.before.saturating_add(used as u64);
+    }
+
+    /// Reads once.
+    fn read_more<D: Source>(&mut self, device: &mut D)
+        requires room { self.old.filled < vec_len self.old.block }
+        requires more { self.old.rest ≡ More }
+        ensures bytes { Keeps (known_whole self.old.block.items self.old.filled self.old.rest (D.remaining device.old))
+            (known_whole self.new.block.items self.new.filled self.new.rest (D.remaining device.new)) }
+    {
+        match read_behind(device, self.block.as_mut_slice(), self.filled) {
+            Ok(0) => self.rest = Rest::None,
+            Ok(count) => self.filled += count,
+            Err(_) => self.rest = Rest::Failed,
+        }
     }
 
     /// Drops the first bytes, and reads until there are this many, or the device ends or fails.
@@ -81,7 +118,12 @@ impl Window {
         device: &mut D,
         used: usize,
         size: usize,
-    ) -> Result<(), AllocError> {
+    ) -> Result<(), AllocError>
+        requires { used ≤ self.old.filled }
+        ensures bytes { Keeps
+            (known_behind used (known_whole self.old.block.items self.old.filled self.old.rest (D.remaining device.old)))
+            (known_whole self.new.block.items self.new.filled self.new.rest (D.remaining device.new)) }
+    {
         self.drop_front(used);
         for _ in 0..u64::MAX {
             if self.is_last() || self.filled >= size {
@@ -90,11 +132,7 @@ impl Window {
             if self.filled >= self.block.len() {
                 self.grow(size)?;
             }
-            match device.read_some(&mut self.block.as_mut_slice()[self.filled..]) {
-                Ok(0) => self.rest = Rest::None,
-                Ok(count) => self.filled += count,
-                Err(_) => self.rest = Rest::Failed,
-            }
+            self.read_more(device);
         }
         Ok(())
     }
