@@ -117,6 +117,7 @@ def small(browser, sample_page, tmp_path):
 
 def test_slider_moves_all_panels(small):
     """What is there at three moments, as docs/USAGE.md has it, of nine peers, and where the cursors stand."""
+    assert small.text("rowsNote") == "2 other peers of 9 never had 17.150.214.0/24."
     for second, wanted, path in [
             (0, {"AS4200001457": "5", "AS374813": "3", "AS35220": "3", "no route": "2"}, "AS200104 → AS12956"),
             (300, {"AS4200001457": "6", "AS374813": "2", "AS35220": "3", "no route": "2"}, "AS200104 → AS174"),
