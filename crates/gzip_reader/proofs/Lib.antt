@@ -23,3 +23,4 @@ pub mod HeaderLaws
 pub mod StoredLaws
 pub mod TrailerLaws
 pub mod StartLaws
+pub mod OthersLaws

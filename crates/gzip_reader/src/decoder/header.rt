@@ -1,11 +1,11 @@
 //! The headers of members (RFC 1952, 2.3), and what stands between members.
 
-ghost use Rattle.std.specs.Prelude.{◌≡◌, ◌<◌, ◌≤◌, ◌+◌, ◌*◌, ◌++◌, ◌∷◌, [], ℕ, List, true, false, Ok, Err, IfOk, OnErr};
+ghost use Rattle.std.specs.Prelude.{◌≡◌, ◌≢◌, ◌<◌, ◌%◌, ◌^◌, ◌⊎◌, ◌≤◌, ◌+◌, ◌*◌, ◌++◌, ◌∷◌, [], ℕ, List, true, false, Ok, Err, IfOk, OnErr};
 ghost use Rattle.gzip_reader.specs.BitFields.{number_at};
 ghost use Rattle.gzip_reader.specs.Crc.{crc};
 ghost use Rattle.gzip_reader.specs.Files.{fixed_byte, flags_at, header_at, no_bytes, skip_bytes};
 ghost use Rattle.gzip_reader.specs.declared.decoder.Step.TheVariants.{To};
-ghost use Rattle.gzip_reader.specs.declared.decoder.Phase.TheVariants.{Comment, Extra, ExtraLength, HeaderCheck, Member, Name};
+ghost use Rattle.gzip_reader.specs.declared.decoder.Phase.TheVariants.{BetweenMembers, Comment, Extra, ExtraLength, HeaderCheck, Member, Name};
 ghost use Rattle.gzip_reader.specs.declared.fault.Flaw.TheVariants.{Truncated};
 
 use super::{Decoder, Phase, Step};
@@ -149,20 +149,25 @@ impl Decoder {
 
     /// What follows a member: another one, zero bytes, or the end.
     pub(super) fn next_member(&mut self) -> Result<Step, Flaw>
-        ensures { ComesAfter self.old self.new result }
+        ensures after { ComesAfter self.old self.new result }
+        ensures advances { (more : List ℕ) → bits_left self.old.input % 8 ≡ 0 → (self.old.input.is_at_end ≡ true → more ≡ []) → Advances self.old self.new BetweenMembers more result }
+        ensures same { ReadsHeader self.old self.new }
     {
         if !self.input.has(2) {
             return Ok(Step::Pause);
         }
         let next = self.input.peek();
-        if self.input.count == 0 {
+        let count = self.input.count;
+        if count == 0 {
             return Ok(Step::To(Phase::Ended));
         }
         if next % 0x100 == 0 {
-            self.input.take(8)?;
-            return Ok(Step::To(Phase::BetweenMembers));
+            return match self.input.take(8) {
+                Err(flaw) => Err(flaw),
+                Ok(_) => Ok(Step::To(Phase::BetweenMembers)),
+            };
         }
-        if next % 0x1_0000 == MAGIC || next == 0x1f && self.input.count == 8 {
+        if is_member(next, count) {
             return Ok(Step::To(Phase::Member));
         }
         Err(Flaw::Trailing)
@@ -265,4 +270,15 @@ impl Decoder {
             Ok(_) => Err(Flaw::HeaderCheck),
         }
     }
+}
+
+/// Whether these bits, of which there are so many, begin a member: with ID1 and ID2, or ID1 is all of them.
+fn is_member(next: u64, count: u32) -> bool
+    ensures some { result ≡ true → (next % 2 ^ 16 ≡ 0x8b1f) ⊎ ((next ≡ 0x1f) × (count ≡ 8)) }
+    ensures other { result ≡ false → (next % 2 ^ 16 ≢ 0x8b1f) × (next ≡ 0x1f → count ≢ 8) }
+{
+    if next % 0x1_0000 == MAGIC {
+        return true;
+    }
+    next == 0x1f && count == 8
 }
