@@ -18,11 +18,11 @@
 //! from a whole one.
 //!
 //! What a file unpacks to is `unpacked` in specs/Files.antt, in the words of the RFCs. What stands to come is still
-//! unknown to the contracts (`remaining` is `None`): they say that what is to come of a file, in each phase but at the
+//! unknown to the contracts (`remaining` is `None`). They say that what is to come of a file, in each phase but at the
 //! header of a block, is what a step of the decoder gives of it, and then what is to come after the step; that reading
 //! from the device loses no bit; how a reader ends; that its checksums are the CRC-32 of the decoded bytes bit by bit;
-//! and that no member is left but by a trailer that agrees with it. That the headers of blocks, with the codes that they
-//! make, join them as the definitions do is tested only.
+//! and that no member is left but by a trailer that agrees with it. That the headers of blocks, with the codes that
+//! they make, join them as the definitions do is tested only.
 #![tactic(auto)]
 
 mod alphabet;
