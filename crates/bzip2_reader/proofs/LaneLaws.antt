@@ -2,6 +2,7 @@
 use Rattle.std.proofs.Common.{◌≡◌, ◌<◌, ◌≤◌, ◌++◌, [], ◌∷◌, ℕ, zero, suc, List, Option, Some, Result, Ok, Err, append-nil, length, length-take-le, drop_of_length-le, get_or, take, drop, sym, ◌∙◌, ap, arith, subst, refl}
 use Rattle.bzip2_reader.specs.declared.block.Text.{Text}
 use Rattle.bzip2_reader.specs.declared.fault.BlockFault.{BlockFault}
+use Rattle.bzip2_reader.specs.Blocks.{block_at}
 use Rattle.bzip2_reader.specs.Links.{IsWalk}
 use Rattle.bzip2_reader.specs.Texts.{IsBlock, IsText, first_link, text_size}
 
@@ -55,3 +56,14 @@ pub lane_held : (bits : List ℕ) (start : Option ℕ) (text : Option (Result Te
 lane_held bits start text links lent new old n size value same long read few fits walk =
     let equal : length new ≡ length old = same ∙ ap length value in
     subst (DecodedAs bits start text) (sym (held n new old equal long)) (lane_walked bits start text links new size read few (omega (arith, equal, long, fits)) walk)
+
+-- a block that was decoded, and whose bytes were taken
+pub block_taken : (bits : List ℕ) (at : ℕ) (r : Result Text BlockFault) (t : Text) (held raw text : List ℕ) (size checksum : ℕ) → r ≡ Ok t → IsBlock bits at r held → length held ≡ size →
+    (t.size ≤ size → raw ≡ take t.size held) → text ≡ raw → checksum ≡ t.checksum →
+    (length text ≡ t.size) × (block_at (drop at bits) ≡ Ok (record { checksum = checksum; text = text }, drop t.end bits))
+block_taken bits at r t held raw text size checksum e is long front same named =
+    let block : IsBlock bits at (Ok t) held = subst (λ (q : Result Text BlockFault). IsBlock bits at q held) e is in
+    let bytes : text ≡ take t.size held = same ∙ front (omega (arith, block.0, long)) in (
+      ap length bytes ∙ length-take-le t.size held block.0,
+      block.1 ∙ ap (λ n. Ok (record { checksum = n; text = take t.size held }, drop t.end bits)) (sym named) ∙ ap (λ l. Ok (record { checksum = checksum; text = l }, drop t.end bits)) (sym bytes),
+    )

@@ -20,6 +20,7 @@ pub mod Stretches
 pub mod Symbols
 pub mod TableSets
 pub mod Tables
+pub mod TextProps
 pub mod Texts
 pub mod Transform
 pub mod Windows

@@ -1,10 +1,10 @@
 // Blocks that are decoded side by side.
 ghost use denote.Param.Send.{IsSync};
-ghost use Rattle.std.specs.Prelude.{◌≡◌, ◌≤◌, ◌+◌, ◌*◌, ◌^◌, ℕ, List, All, IfOk, length, vec_len};
+ghost use Rattle.std.specs.Prelude.{◌≡◌, ◌≤◌, ◌+◌, ◌*◌, ◌^◌, ℕ, List, All, IfOk, IfSome, take, length, vec_len};
 ghost use Rattle.bzip2_reader.specs.Fields.{bits_of};
 ghost use Rattle.bzip2_reader.specs.Jobs.{HasRun};
 ghost use Rattle.bzip2_reader.specs.Lanes.{IsDecoded, IsRead};
-ghost use Rattle.bzip2_reader.specs.Texts.{first_link, text_size};
+ghost use Rattle.bzip2_reader.specs.Texts.{IsBlock, first_link, text_size};
 
 use crate::bits::MOST_BYTES;
 use crate::block::{MOST_SIZE, Text, read_text};
@@ -87,6 +87,32 @@ impl Lane {
         }
         if let Some(start) = self.start {
             self.text = Some(read_text(codes, self.links.as_mut_slice(), bytes, start));
+        }
+    }
+
+    /// The bit at which its block begins, if it has one.
+    pub(crate) fn start(&self) -> Option<usize> {
+        self.start
+    }
+
+    /// What was decoded at this bit, if anything was.
+    pub(crate) fn text(&self, at: usize) -> Option<Result<Text, BlockFault>>
+        ensures { (bits : List ℕ) → IsDecoded bits self.now →
+            IfSome result (λ text. IsBlock bits at text self.now.raw.items) }
+    {
+        if self.start == Some(at) {
+            return self.text;
+        }
+        None
+    }
+
+    /// So many bytes of the block before its runs are written out.
+    pub(crate) fn raw(&self, size: usize) -> &[u8]
+        ensures { size ≤ vec_len self.now.raw → result.now ≡ take size self.now.raw.items }
+    {
+        match self.raw.as_slice().get(..size) {
+            Some(raw) => raw,
+            None => &[],
         }
     }
 
@@ -179,30 +205,16 @@ impl Job {
         }
     }
 
-    fn lane(&self, number: usize) -> Option<&Lane> {
+    /// The lane of this number.
+    fn lane(&self, number: usize) -> Option<&Lane>
+        ensures { (bits : List ℕ) → HasRun bits self.now → IfSome result (λ lane. IsDecoded bits lane.now) }
+    {
         match number {
             0 => Some(&self.first),
             1 => Some(&self.second),
             2 => Some(&self.third),
             3 => Some(&self.fourth),
             _ => None,
-        }
-    }
-
-    /// The block of this lane: where it begins, and what it is.
-    pub(crate) fn text(&self, lane: usize) -> Option<(usize, Result<Text, BlockFault>)> {
-        let lane = self.lane(lane)?;
-        Some((lane.start?, lane.text?))
-    }
-
-    /// The first bytes of this lane's block before its runs are written out.
-    pub(crate) fn raw(&self, lane: usize, size: usize) -> &[u8] {
-        let Some(lane) = self.lane(lane) else {
-            return &[];
-        };
-        match lane.raw.as_slice().get(..size) {
-            Some(raw) => raw,
-            None => &[],
         }
     }
 
@@ -317,6 +329,16 @@ impl<R: Threads + Sync> Team for Beside<'_, R> {
 
     fn run(&self, jobs: Vec<Job>, bytes: &[u8]) -> Result<Vec<Job>, AllocError> {
         map_vec(self.0, jobs, &|job| job.run(bytes))
+    }
+}
+
+/// The lane of this number among those of all jobs.
+pub(crate) fn lane_of(jobs: &[Job], number: usize) -> Option<&Lane>
+    ensures { (bits : List ℕ) → All (HasRun bits) jobs.now → IfSome result (λ lane. IsDecoded bits lane.now) }
+{
+    match jobs.get(number / LANES) {
+        Some(job) => job.lane(number % LANES),
+        None => None,
     }
 }
 

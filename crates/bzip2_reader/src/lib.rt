@@ -55,6 +55,7 @@ mod phase;
 mod reader;
 mod runs;
 mod scan;
+mod streams;
 mod symbols;
 mod table;
 mod transform;
