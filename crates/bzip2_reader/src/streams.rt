@@ -261,7 +261,9 @@ impl<D: Source> Streams<D> {
         self.refill(jobs)
     }
 
-    /// Takes one step: past the head or the end of a stream, or a block.
+    /// Takes one step: past the head or the end of a stream, or a block. It is seldom, and what it needs is not to be
+    /// cleared at each read.
+    #[inline(never)]
     fn step<T: Team>(&mut self, team: &T) -> Result<(), Cause>
         requires { T.is_ready team.now }
     {
