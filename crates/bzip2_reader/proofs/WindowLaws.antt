@@ -1,12 +1,14 @@
 -- The bytes from a window's first one on, as it is filled.
-use Rattle.std.proofs.Common.{◌≡◌, ℕ, ◌+◌, ◌-◌, ◌≤◌, Option, Some, None, List, ◌++◌, append_assoc, length, length-drop, length-take-le, take, take-add, drop, refl, sym, ◌∙◌, ap, arith, subst}
+use Rattle.std.proofs.Common.{◌≡◌, ℕ, ◌+◌, ◌-◌, ◌*◌, ◌≤◌, Option, Some, None, List, ◌++◌, append_assoc, length, length-drop, length-take-le, take, take-add, drop, refl, sym, ◌∙◌, ap, arith, subst}
 use Rattle.std.specs.List.{copy_within}
 use Rattle.std.specs.Io.KnownBytes.{Consumes, Keeps}
 use Rattle.std.proofs.lemmas.List.{drop-append-le, drop-take, take-append-le, take-take}
 use Rattle.bzip2_reader.specs.declared.window.Rest.{Rest}
 use Rattle.bzip2_reader.specs.declared.window.Rest.TheVariants.{More}
-use Rattle.bzip2_reader.specs.Stretches.{behind, known_behind, known_whole}
+use Rattle.bzip2_reader.specs.Stretches.{behind, known_behind, known_bits, known_whole}
+use Rattle.bzip2_reader.specs.Fields.{bits_of}
 use Rattle.bzip2_reader.proofs.LaneLaws.{held}
+use Rattle.bzip2_reader.proofs.WordLaws.{bits_behind, drop_more}
 
 pub keeps_then : (a b c : Option (List ℕ)) → Keeps a b → Keeps b c → Keeps a c
 keeps_then None b c e f = tt
@@ -53,3 +55,11 @@ moved_front xs used filled h fits =
     let size : length (take n (drop used xs)) ≡ n = length-take-le n (drop used xs) (omega (arith, length-drop used xs, h, fits)) in
     let end : used + n ≡ filled = omega (arith, h) in
     take-append-le n (take n (drop used xs)) (drop (0 + n) xs) (omega (arith, size)) ∙ take-take n n (drop used xs) (omega arith) ∙ sym (drop-take used n xs) ∙ ap (λ k. drop used (take k xs)) end
+
+-- the bits from one on, where whole bytes before it were dropped
+pub refilled : (at used : ℕ) (known known2 : Option (List ℕ)) → used * 8 ≤ at → Keeps (known_behind used known) known2 → Keeps (known_bits at known) (known_bits (at - used * 8) known2)
+refilled at used None known2 h kept = tt
+refilled at used (Some xs) None h kept = absurd kept
+refilled at used (Some xs) (Some ys) h kept =
+    let e : 8 * used + (at - used * 8) ≡ at = omega (arith, h) in
+    ap (λ l. drop (at - used * 8) (bits_of l)) kept ∙ ap (drop (at - used * 8)) (sym (bits_behind used xs)) ∙ drop_more (8 * used) (at - used * 8) (bits_of xs) ∙ ap (λ n. drop n (bits_of xs)) e

@@ -2,6 +2,7 @@
 use Rattle.std.specs.Prelude.{Bool, true, false, ℕ, List, [], ◌++◌, Option, drop, take}
 use Rattle.std.specs.Option.{option_map}
 use Rattle.bzip2_reader.specs.declared.window.Rest.{Rest}
+use Rattle.bzip2_reader.specs.Fields.{bits_of}
 use Rattle.bzip2_reader.specs.declared.window.Rest.TheVariants.{More, None as NoMore, Failed}
 
 -- the bytes behind the stretch, where the device has these left: a device that failed still has them
@@ -21,6 +22,10 @@ known_whole block filled rest left = option_map (whole block filled rest) left
 -- without so many of the first ones
 abbrev pub known_behind : ℕ → Option (List ℕ) → Option (List ℕ)
 known_behind used known = option_map (drop used) known
+
+-- the bits from this one on
+abbrev pub known_bits : ℕ → Option (List ℕ) → Option (List ℕ)
+known_bits at known = option_map (λ bytes. drop at (bits_of bytes)) known
 
 -- no bytes can be read behind the stretch
 abbrev pub is_last : Rest → Bool

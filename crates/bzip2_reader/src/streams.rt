@@ -7,6 +7,8 @@ ghost use Rattle.bzip2_reader.specs.Bits.{bits_at};
 ghost use Rattle.bzip2_reader.specs.Blocks.{block_at};
 ghost use Rattle.bzip2_reader.specs.Fields.{bits_of};
 ghost use Rattle.bzip2_reader.specs.Jobs.{HasRun};
+ghost use Rattle.bzip2_reader.specs.Stretches.{known_bits, known_whole};
+ghost use Rattle.std.specs.Io.KnownBytes.{Keeps};
 ghost use Rattle.bzip2_reader.specs.Windows.{window_bytes};
 ghost use Rattle.bzip2_reader.specs.declared.streams.Stage.TheVariants.{Inside};
 
@@ -93,6 +95,11 @@ impl<D: Source> Streams<D> {
     /// Reads on, so that the next block is in the window whole, or the device's end, and further bytes for each job.
     fn refill(&mut self, jobs: usize) -> Result<(), Cause>
         requires { jobs ≤ 64 }
+        ensures bits { Keeps
+            (known_bits self.old.at (known_whole self.old.window.block.items self.old.window.filled
+            self.old.window.rest (D.remaining self.old.device)))
+            (known_bits self.new.at (known_whole self.new.window.block.items self.new.window.filled
+            self.new.window.rest (D.remaining self.new.device))) }
     {
         let used = (self.at / 8).min(self.window.bytes().len());
         if self.window.is_last() || self.window.bytes().len() - used >= MARGIN {
