@@ -63,7 +63,9 @@ fn packed(rt: &impl Abort, alloc: Global, attributes: &str, hops: &[u128]) -> Pa
     };
     attrs.extend_from_slice(head).expect(rt, attributes);
     for hop in hops {
-        attrs.extend_from_slice(&hop.to_be_bytes()).expect(rt, attributes);
+        attrs
+            .extend_from_slice(&hop.to_be_bytes())
+            .expect(rt, attributes);
     }
     let mut bytes = Vec::new(alloc);
     let span = decode_entry::<Ipv6>(alloc, &mut bytes, attrs.as_slice(), Width::Four);
