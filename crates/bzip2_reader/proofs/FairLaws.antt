@@ -79,7 +79,7 @@ fair_if A Q false f g a b = b
 
 -- ---- numbers
 
-number_grown : (value n : ℕ) (bits more : List ℕ) → Grown more (number_from value n bits) (number_from value n (bits ++ more))
+pub number_grown : (value n : ℕ) (bits more : List ℕ) → Grown more (number_from value n bits) (number_from value n (bits ++ more))
 unfolding number_from
 number_grown value zero bits more = refl
 number_grown value (suc n) [] more = λ other. absurd (other refl)

@@ -1,10 +1,12 @@
 -- A lane whose links were walked.
-use Rattle.std.proofs.Common.{◌≡◌, ◌<◌, ◌≤◌, ◌++◌, [], ◌∷◌, ℕ, zero, suc, List, Option, Some, Result, Ok, Err, append-nil, length, length-take-le, drop_of_length-le, get_or, take, drop, sym, ◌∙◌, ap, arith, subst, refl}
+use Rattle.std.proofs.Common.{◌≡◌, ◌<◌, ◌≤◌, ◌++◌, ◌*◌, [], ◌∷◌, ℕ, zero, suc, List, Option, Some, Result, Ok, Err, append-nil, IfOk, IfErr, length, length-take-le, drop_of_length-le, get_or, take, drop, sym, ◌∙◌, ap, arith, subst, refl}
 use Rattle.bzip2_reader.specs.declared.block.Text.{Text}
 use Rattle.bzip2_reader.specs.declared.fault.BlockFault.{BlockFault}
 use Rattle.bzip2_reader.specs.Blocks.{block_at}
+use Rattle.bzip2_reader.specs.Fields.{bits_of}
 use Rattle.bzip2_reader.specs.Links.{IsWalk}
 use Rattle.bzip2_reader.specs.Texts.{IsBlock, IsText, first_link, text_size}
+use Rattle.bzip2_reader.proofs.WordLaws.{bits_length}
 
 front_of : (xs : List ℕ) (k n : ℕ) → k < n → get_or (take n xs) k 0 ≡ get_or xs k 0
 front_of xs k zero less = absurd (omega (arith, less))
@@ -18,7 +20,8 @@ block_walked bits at (Ok t) links raw size is few fits walk =
     let whole : length (take size raw) ≡ size = length-take-le size raw fits in
     let part : length (take t.size raw) ≡ t.size = length-take-le t.size raw (omega (arith, fits, few)) in (
       omega (arith, fits, few),
-      is (take t.size raw) part (λ k less. front_of raw k t.size (omega (arith, part, less)) ∙ sym (front_of raw k size (omega (arith, part, less, few)))
+      is.0,
+      is.1 (take t.size raw) part (λ k less. front_of raw k t.size (omega (arith, part, less)) ∙ sym (front_of raw k size (omega (arith, part, less, few)))
           ∙ walk k (omega (arith, part, less, few, whole))),
     )
 block_walked bits at (Err fault) links raw size is few fits walk = is
@@ -60,10 +63,25 @@ lane_held bits start text links lent new old n size value same long read few fit
 -- a block that was decoded, and whose bytes were taken
 pub block_taken : (bits : List ℕ) (at : ℕ) (r : Result Text BlockFault) (t : Text) (held raw text : List ℕ) (size checksum : ℕ) → r ≡ Ok t → IsBlock bits at r held → length held ≡ size →
     (t.size ≤ size → raw ≡ take t.size held) → text ≡ raw → checksum ≡ t.checksum →
-    (length text ≡ t.size) × (block_at (drop at bits) ≡ Ok (record { checksum = checksum; text = text }, drop t.end bits))
+    (length text ≡ t.size) × (t.end ≤ length bits) × (block_at (drop at bits) ≡ Ok (record { checksum = checksum; text = text }, drop t.end bits))
 block_taken bits at r t held raw text size checksum e is long front same named =
     let block : IsBlock bits at (Ok t) held = subst (λ (q : Result Text BlockFault). IsBlock bits at q held) e is in
     let bytes : text ≡ take t.size held = same ∙ front (omega (arith, block.0, long)) in (
       ap length bytes ∙ length-take-le t.size held block.0,
-      block.1 ∙ ap (λ n. Ok (record { checksum = n; text = take t.size held }, drop t.end bits)) (sym named) ∙ ap (λ l. Ok (record { checksum = checksum; text = l }, drop t.end bits)) (sym bytes),
+      block.1,
+      block.2 ∙ ap (λ n. Ok (record { checksum = n; text = take t.size held }, drop t.end bits)) (sym named) ∙ ap (λ l. Ok (record { checksum = checksum; text = l }, drop t.end bits)) (sym bytes),
     )
+
+-- what was read at a place, with the end among the bits
+pub text_read : (bytes : List ℕ) (at : ℕ) (r : Result Text BlockFault) (links : List ℕ) → IfOk r (λ t. t.end ≤ 8 * length bytes) →
+    IfOk r (λ t. (raw : List ℕ) → length raw ≡ t.size → IsWalk links t.first raw → block_at (drop at (bits_of bytes)) ≡ Ok (record { checksum = t.checksum; text = raw }, drop t.end (bits_of bytes))) →
+    IfErr r (λ e. block_at (drop at (bits_of bytes)) ≡ Err e) → IsText (bits_of bytes) at r links
+text_read bytes at (Ok t) links end block fault = (omega (arith, end, bits_length bytes), block)
+text_read bytes at (Err e) links end block fault = fault
+
+pub read_there : (bits : List ℕ) (start : Option ℕ) (place : ℕ) (r : Result Text BlockFault) (links : List ℕ) → start ≡ Some place → IsText bits place r links → ReadAs bits start (Some r) links
+read_there bits start place r links e is at text begins has =
+    subst (λ (n : ℕ). IsText bits n text links) (some_is place at (sym e ∙ begins)) (subst (λ (t : Result Text BlockFault). IsText bits place t links) (some_is r text has) is)
+  where
+    some_is : {A : Type 0} → (x y : A) → Some x ≡ Some y → x ≡ y
+    some_is x y h = cc

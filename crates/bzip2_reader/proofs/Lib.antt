@@ -20,6 +20,8 @@ pub mod RunLaws
 pub mod SelectorLaws
 pub mod SizeLaws
 pub mod SmallLaws
+pub mod StepLaws
+pub mod StreamLaws
 pub mod SymbolReads
 pub mod TableLaws
 pub mod UsedLaws

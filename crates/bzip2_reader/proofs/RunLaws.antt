@@ -1,11 +1,11 @@
 -- Runs written out, one byte of the text after the other.
-use Rattle.std.proofs.Common.{◌≡◌, ℕ, zero, suc, ◌+◌, ◌-◌, ◌<◌, ◌≤◌, List, [], ◌∷◌, ◌++◌, Bool, true, false, length, take, drop, replicate, slice_index, refl, sym, ap, ◌∙◌, arith, length-append, append_assoc, length-take-le, take-append-drop}
+use Rattle.std.proofs.Common.{◌≡◌, ◌≢◌, ℕ, zero, suc, ◌+◌, ◌-◌, ◌<◌, ◌≤◌, List, [], ◌∷◌, ◌++◌, Bool, true, false, length, take, drop, replicate, slice_index, refl, sym, ap, ◌∙◌, arith, length-append, append_assoc, length-take-le, take-append-drop, subst}
 use Rattle.std.specs.Prelude.{◌==◌, if◌then◌else◌}
 use Rattle.std.proofs.Math.Seq.{drop-append_seam, drop-cons, take-append_seam, take-append-add, take-suc}
-use Rattle.std.proofs.lemmas.List.{get_or-drop, take-append-le}
+use Rattle.std.proofs.lemmas.List.{get_or-drop, length-replicate, take-append-le}
 use borrow.Rule.Slice.PartMut.{put_mid, post_of}
 use Rattle.bzip2_reader.specs.declared.runs.Runs.{Runs}
-use Rattle.bzip2_reader.specs.Runs.{IsWithin, count_written, left, written, written_from}
+use Rattle.bzip2_reader.specs.Runs.{IsSettled, IsWithin, count_written, left, written, written_from}
 
 -- ---- a text
 
@@ -117,3 +117,25 @@ module _ (text piece : List ℕ) (old new : Runs) (was : IsWithin text old) (gav
       let whole_is : whole ≡ front ++ left text new = sym (take-append-drop before whole) ∙ ap (λ l. take before whole ++ l) split ∙ sym (append_assoc (take before whole) piece (left text new)) in
       let size = ap length whole_is ∙ length-append front (left text new) in
       sym (ap (λ n. drop n whole) {y = length front} (omega (arith, size)) ∙ ap (drop (length front)) whole_is ∙ drop-append_seam front (left text new))
+
+-- ---- some is left
+
+not_none : (n : ℕ) (xs : List ℕ) → 0 < n → length xs ≡ n → xs ≢ []
+not_none n xs some size e = omega (arith, some, size, ap length e)
+
+pub some_owed : (text : List ℕ) (runs : Runs) → 0 < runs.owed → left text runs ≢ []
+some_owed text runs some e =
+    let size = ap length e in
+    omega (arith, some, size, length-append (replicate runs.owed runs.last) (written_from runs.last runs.same (drop runs.at text)), length-replicate runs.owed runs.last)
+
+pub some_there : (text : List ℕ) (runs : Runs) → IsSettled text runs → runs.owed ≡ 0 → runs.at < length text → left text runs ≢ []
+some_there text runs settled none more e =
+    let few : runs.same < 4 = by runs.same settled.0 settled.1 in
+    let now : replicate 0 runs.last ++ written_from runs.last runs.same (drop runs.at text) ≡ [] = subst (λ (n : ℕ). replicate n runs.last ++ written_from runs.last runs.same (drop runs.at text) ≡ []) none e in
+    apart _ _ (sym (one_more text runs.at runs.last runs.same more few) ∙ now)
+  where
+    by : (n : ℕ) → n ≤ 4 → (n ≡ 4 → length text ≤ runs.at) → n < 4
+    by n h g = grind arith
+
+    apart : (x : ℕ) (xs : List ℕ) → x ∷ xs ≡ [] → ⊥
+    apart x xs e = cc

@@ -3,6 +3,7 @@ pub mod Blocks
 pub mod Checksums
 pub mod Codes
 pub mod Columns
+pub mod Coming
 pub mod Cursors
 pub mod Endings
 pub mod Fields
@@ -11,11 +12,13 @@ pub mod Fronts
 pub mod Heads
 pub mod Jobs
 pub mod Lanes
+pub mod Left
 pub mod Links
 pub mod Orders
 pub mod Reading
 pub mod Runs
 pub mod Steady
+pub mod StreamViews
 pub mod Stretches
 pub mod Symbols
 pub mod TableSets

@@ -7,12 +7,12 @@ use Rattle.bzip2_reader.specs.Links.{IsWalk}
 
 -- The bits from a place on are a block, whose text are the bytes that walk the links; or this is wrong with them.
 abbrev pub IsText : List ℕ → ℕ → Result Text BlockFault → List ℕ → Type 0
-IsText bits at (Ok t) links = (raw : List ℕ) → length raw ≡ t.size → IsWalk links t.first raw → block_at (drop at bits) ≡ Ok (record { checksum = t.checksum; text = raw }, drop t.end bits)
+IsText bits at (Ok t) links = (t.end ≤ length bits) × ((raw : List ℕ) → length raw ≡ t.size → IsWalk links t.first raw → block_at (drop at bits) ≡ Ok (record { checksum = t.checksum; text = raw }, drop t.end bits))
 IsText bits at (Err fault) links = block_at (drop at bits) ≡ Err fault
 
 -- The bits from a place on are a block, whose text are the first bytes of raw; or this is wrong with them.
 abbrev pub IsBlock : List ℕ → ℕ → Result Text BlockFault → List ℕ → Type 0
-IsBlock bits at (Ok t) raw = (t.size ≤ length raw) × (block_at (drop at bits) ≡ Ok (record { checksum = t.checksum; text = take t.size raw }, drop t.end bits))
+IsBlock bits at (Ok t) raw = (t.size ≤ length raw) × (t.end ≤ length bits) × (block_at (drop at bits) ≡ Ok (record { checksum = t.checksum; text = take t.size raw }, drop t.end bits))
 IsBlock bits at (Err fault) raw = block_at (drop at bits) ≡ Err fault
 
 -- how many bytes a block has before its runs are written out, if it was read

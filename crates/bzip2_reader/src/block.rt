@@ -1,5 +1,7 @@
 // One block.
-ghost use Rattle.std.specs.Prelude.{◌≡◌, ◌<◌, ◌≤◌, ◌+◌, ◌*◌, ◌^◌, ℕ, length, List, take, drop, Ok, Err, IfErr, IfOk, OnOk, vec_len};
+ghost use Rattle.std.specs.Prelude.{◌≡◌, ◌≢◌, ◌<◌, ◌≤◌, ◌+◌, ◌*◌, ◌^◌, ◌++◌, ◌⊎◌, ℕ, length, List, [], take, drop, Ok, Err, IfErr, IfOk, OnOk, vec_len, true, false};
+ghost use Rattle.bzip2_reader.specs.declared.fault.BlockFault.TheVariants.{BadChecksum};
+ghost use Rattle.bzip2_reader.specs.declared.fault.Cause.TheVariants.{Block as TheBlock, Memory};
 ghost use Rattle.bzip2_reader.specs.Bits.{bits_at};
 ghost use Rattle.bzip2_reader.specs.Blocks.{block_at, block_head_at, rows_at};
 ghost use Rattle.bzip2_reader.specs.Heads.{head_of};
@@ -30,7 +32,7 @@ struct Head {
 }
 
 /// Reads 48 bits.
-fn read_magic(cursor: &mut Cursor<'_>) -> Result<u64, BlockFault>
+pub(crate) fn read_magic(cursor: &mut Cursor<'_>) -> Result<u64, BlockFault>
     ensures bytes { cursor.new.bytes.now ≡ cursor.old.bytes.now }
     ensures moves { OnOk result (cursor.new.at ≡ cursor.old.at + 48) }
     ensures takes { Takes (λ n. n) result (bits_left cursor.new) (number 48 (bits_left cursor.old)) }
@@ -120,6 +122,7 @@ pub(crate) fn read_text(
     requires room { length links.old ≡ 900000 }
     ensures named { IfOk result (λ t. t.checksum ≡ bits_at bytes.now (at + 48) 32) }
     ensures size { IfOk result (λ t. t.size ≤ 900000) }
+    ensures end { IfOk result (λ t. t.end ≤ 8 * length bytes.now) }
     ensures block { IfOk result (λ t. (raw : List ℕ) → length raw ≡ t.size → IsWalk links.new t.first raw →
         block_at (drop at (bits_of bytes.now))
         ≡ Ok (record { checksum = t.checksum; text = raw }, drop t.end (bits_of bytes.now))) }
@@ -177,8 +180,12 @@ pub(crate) struct Block {
 }
 
 impl Block {
+    ghost use Rattle.bzip2_reader.specs.Left.{left_of};
+
     /// No bytes.
-    pub(crate) fn new(alloc: Global) -> Block {
+    pub(crate) fn new(alloc: Global) -> Block
+        ensures { left_of result ≡ [] }
+    {
         Block {
             text: Vec::new(alloc),
             checksum: 0,
@@ -195,6 +202,9 @@ impl Block {
     ) -> Result<Block, Cause>
         ensures named { IfOk result (λ b. b.checksum ≡ checksum) }
         ensures text { IfOk result (λ b. b.text.items ≡ raw.now) }
+        ensures fresh { IfOk result (λ b. left_of b ≡ written b.text.items) }
+        ensures wrong { IfErr result (λ cause. (cause ≡ Memory)
+            ⊎ ((cause ≡ TheBlock BadChecksum) × (checksum_of (written raw.now) ≢ checksum))) }
     {
         text.clear();
         if text.extend_from_slice(raw).is_err() {
@@ -216,7 +226,10 @@ impl Block {
     }
 
     /// Whether all bytes were given.
-    pub(crate) fn is_given(&self) -> bool {
+    pub(crate) fn is_given(&self) -> bool
+        ensures yes { result ≡ true → left_of self.now ≡ [] }
+        ensures no { result ≡ false → left_of self.now ≢ [] }
+    {
         self.runs.is_done(self.text.as_slice())
     }
 
@@ -227,6 +240,8 @@ impl Block {
             ≡ take result (drop (count_written self.old.text.items self.old.runs) (written self.old.text.items)) }
         ensures count { count_written self.new.text.items self.new.runs
             ≡ count_written self.old.text.items self.old.runs + result }
+        ensures next { left_of self.old ≡ take result buf.new ++ left_of self.new }
+        ensures ends { result < length buf.new → left_of self.new ≡ [] }
         ensures same { (self.new.text ≡ self.old.text) × (self.new.checksum ≡ self.old.checksum) }
     {
         self.runs.write(self.text.as_slice(), buf)

@@ -1,6 +1,7 @@
 // What is wrong with a file.
 ghost use Rattle.std.specs.Prelude.{◌≡◌};
 ghost use Rattle.bzip2_reader.specs.Endings.{is_failure};
+ghost use Rattle.bzip2_reader.specs.Files.{cause_of};
 
 /// What is wrong with the bits of a block.
 #[derive(Clone, Copy, Debug, PartialEq, Eq, Drop)]
@@ -52,6 +53,16 @@ impl Cause {
         ensures { result ≡ is_failure self }
     {
         matches!(self, Cause::Device | Cause::Memory)
+    }
+}
+
+/// What is wrong with a file where this is wrong with a block.
+pub(crate) fn cause_of(fault: BlockFault) -> Cause
+    ensures { result ≡ cause_of fault }
+{
+    match fault {
+        BlockFault::ShortBlock => Cause::EarlyEnd,
+        _ => Cause::Block(fault),
     }
 }
 

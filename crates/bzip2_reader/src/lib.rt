@@ -51,6 +51,7 @@ mod front;
 mod laws;
 mod moves;
 mod order;
+mod parts;
 mod phase;
 mod reader;
 mod runs;

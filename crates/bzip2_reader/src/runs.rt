@@ -1,5 +1,5 @@
 // The runs of a block's text, written out piece by piece.
-ghost use Rattle.std.specs.Prelude.{◌≡◌, ◌==◌, ◌<◌, ◌≤◌, ◌+◌, ◌-◌, ◌++◌, ℕ, List, length, take, drop, [], true, if◌then◌else◌};
+ghost use Rattle.std.specs.Prelude.{◌≡◌, ◌≢◌, ◌==◌, ◌<◌, ◌≤◌, ◌+◌, ◌-◌, ◌++◌, ℕ, List, length, take, drop, [], true, false, if◌then◌else◌};
 ghost use Rattle.bzip2_reader.specs.Runs.{IsSettled, left, written, written_from};
 
 /// How many equal bytes a count follows: it tells how many more of them there are.
@@ -74,9 +74,13 @@ impl Runs {
 
     /// Whether nothing is left to write.
     pub(crate) fn is_done(&self, text: &[u8]) -> bool
-        ensures { result ≡ true → left text.now self.now ≡ [] }
+        ensures yes { result ≡ true → left text.now self.now ≡ [] }
+        ensures no { result ≡ false → IsSettled text.now self.now → left text.now self.now ≢ [] }
     {
-        if self.owed > 0 || self.at < text.len() {
+        if self.owed > 0 {
+            return false;
+        }
+        if self.at < text.len() {
             return false;
         }
         true

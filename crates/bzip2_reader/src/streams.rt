@@ -1,23 +1,25 @@
 // The streams of a device, block by block.
-ghost use Rattle.std.specs.Prelude.{◌≡◌, ◌<◌, ◌≤◌, ◌+◌, ◌-◌, ◌*◌, ◌^◌, ℕ, length, IfOk, OnOk, vec_len, Ok, true, All, bit_xor, drop, min, take};
+ghost use Rattle.std.specs.Prelude.{◌≡◌, ◌≢◌, ◌<◌, ◌≤◌, ◌+◌, ◌-◌, ◌*◌, ◌/◌, ◌^◌, ◌++◌, ◌⊎◌, ℕ, List, [], length, IfErr, IfOk, OnErr, OnOk, Option, None, Some, vec_len, Ok, Err, true, false, All, bit_xor, drop, min, take};
+ghost use Rattle.std.specs.Option.{option_map};
 ghost use Rattle.std.specs.Int.{rotate_left, w32};
 ghost use Rattle.std.proofs.Props.{props};
 ghost use Rattle.bzip2_reader.specs.TextProps.{block_prop};
-ghost use Rattle.bzip2_reader.specs.Bits.{bits_at};
-ghost use Rattle.bzip2_reader.specs.Blocks.{block_at};
+ghost use Rattle.bzip2_reader.specs.Coming.{Comes, EndsBy, GoesOn, IsWrong, Stops};
+ghost use Rattle.bzip2_reader.specs.Endings.{is_failure};
 ghost use Rattle.bzip2_reader.specs.Fields.{bits_of};
+ghost use Rattle.bzip2_reader.specs.Files.{Between, Inside, IsMore, Unpacked, block_in, part_at, unpacked};
 ghost use Rattle.bzip2_reader.specs.Jobs.{HasRun};
-ghost use Rattle.bzip2_reader.specs.Stretches.{known_bits, known_whole};
-ghost use Rattle.std.specs.Io.KnownBytes.{Keeps};
+ghost use Rattle.bzip2_reader.specs.Stretches.{has_failed};
 ghost use Rattle.bzip2_reader.specs.Windows.{window_bytes};
-ghost use Rattle.bzip2_reader.specs.declared.streams.Stage.TheVariants.{Inside};
+ghost use Rattle.bzip2_reader.specs.declared.fault.Cause.TheVariants.{Device, EarlyEnd, Memory};
+ghost use Rattle.bzip2_reader.specs.declared.window.Rest.TheVariants.{None as NoMore};
 
 use crate::batch::{Job, Team, decode_from, lane_of};
 use crate::bits::Cursor;
-use crate::block::Block;
+use crate::block::{Block, read_magic};
 use crate::checksum::Checksums;
-use crate::fault::{BlockFault, Cause};
-use crate::scan::MAGIC;
+use crate::fault::{BlockFault, Cause, cause_of};
+use crate::parts::{read_end, read_head};
 use crate::window::Window;
 use mrt_frame::Source;
 use std::alloc::{AllocError, Global};
@@ -32,6 +34,15 @@ const MARGIN: usize = 2_300_000;
 /// How many further bytes are held for each thread.
 const EACH: usize = 1_200_000;
 
+/// Makes this many jobs. Those that are more are dropped with their memory.
+fn fill_jobs(alloc: Global, jobs: &mut Vec<Job>, count: usize) -> Result<(), AllocError> {
+    jobs.truncate(count);
+    for _ in jobs.len()..count {
+        jobs.push(Job::new(alloc))?;
+    }
+    Ok(())
+}
+
 /// Where in a stream the reader is.
 #[derive(Clone, Copy, Drop)]
 enum Stage {
@@ -40,7 +51,6 @@ enum Stage {
     /// Before a block or the end of the stream, whose blocks have at most so many bytes. The checksum is that of the
     /// blocks so far.
     Inside { most: usize, sum: u32 },
-    Ended,
 }
 
 /// The streams of a device, one after the other.
@@ -58,11 +68,20 @@ pub(crate) struct Streams<D> {
     dealt: usize,
     next: usize,
     pub(crate) block: Block,
+    ghost within: { at ≤ 8 * window.filled },
     ghost decoded: { next < dealt → All (HasRun (bits_of (take window.filled window.block.items))) jobs.items } by { Prim.hlevel (props, block_prop) },
 }
 
 impl<D: Source> Streams<D> {
-    pub(crate) fn new(front: Vec<u8>, device: D) -> Streams<D> {
+    ghost use Rattle.bzip2_reader.specs.Left.{left_of};
+    ghost use Rattle.bzip2_reader.specs.StreamViews.{IsSame, coming_of, place_of};
+
+    /// Begins with these bytes, which are followed by the device's.
+    pub(crate) fn new(front: Vec<u8>, device: D) -> Streams<D>
+        ensures device { result.device ≡ device }
+        ensures bytes { (known : Option (List ℕ)) →
+            coming_of known result ≡ option_map (λ bytes. unpacked (front.items ++ bytes)) known }
+    {
         let alloc = *front.allocator();
         Streams {
             alloc,
@@ -83,29 +102,16 @@ impl<D: Source> Streams<D> {
         self.window.offset_of(self.at / 8)
     }
 
-    /// What is wrong where the window's bytes end too early.
-    fn early_end(&self) -> Cause {
-        if self.window.has_failed() {
-            Cause::Device
-        } else {
-            Cause::EarlyEnd
-        }
-    }
-
-    /// Reads on, so that the next block is in the window whole, or the device's end, and further bytes for each job.
-    fn refill(&mut self, jobs: usize) -> Result<(), Cause>
-        requires { jobs ≤ 64 }
-        ensures bits { Keeps
-            (known_bits self.old.at (known_whole self.old.window.block.items self.old.window.filled
-            self.old.window.rest (D.remaining self.old.device)))
-            (known_bits self.new.at (known_whole self.new.window.block.items self.new.window.filled
-            self.new.window.rest (D.remaining self.new.device))) }
+    /// Drops what is before the next bit, and reads until there are this many bytes, or the device ends or fails.
+    fn hold(&mut self, size: usize) -> Result<(), Cause>
+        ensures block { self.new.block ≡ self.old.block }
+        ensures comes { Comes [] (coming_of (D.remaining self.old.device) self.old)
+            (coming_of (D.remaining self.new.device) self.new) }
+        ensures wrong { IfErr result (λ cause. cause ≡ Memory) }
+        ensures sound { has_failed self.new.window.rest ≡ false → (has_failed self.old.window.rest ≡ false)
+            × (D.failure_count self.new.device ≡ D.failure_count self.old.device) }
     {
-        let used = (self.at / 8).min(self.window.bytes().len());
-        if self.window.is_last() || self.window.bytes().len() - used >= MARGIN {
-            return Ok(());
-        }
-        let size = MARGIN + jobs * EACH;
+        let used = self.at / 8;
         self.at -= used * 8;
         self.dealt = 0;
         self.next = 0;
@@ -115,71 +121,115 @@ impl<D: Source> Streams<D> {
         }
     }
 
-    /// Reads the head of a stream, if there is one more.
-    fn begin_stream(&mut self) -> Result<(), Cause> {
-        let Some(rest) = self.window.bytes().get(self.at / 8..) else {
-            return Err(self.early_end());
-        };
-        match rest {
-            [] if self.window.has_failed() => return Err(Cause::Device),
-            [] => self.stage = Stage::Ended,
-            [b'B', b'Z', b'h', level, ..] if *level >= b'1' && *level <= b'9' => {
-                let most = 100_000 * usize::from(*level - b'0');
-                self.at = self.at.saturating_add(32);
-                self.stage = Stage::Inside { most, sum: 0 };
-            }
-            [b'B'] | [b'B', b'Z'] | [b'B', b'Z', b'h'] => return Err(self.early_end()),
-            _ => return Err(Cause::NoStream),
-        }
-        Ok(())
-    }
-
-    /// The 48 bits from here on.
-    fn magic(&self) -> Result<u64, Cause> {
-        let Some(mut cursor) = Cursor::new(self.window.bytes(), self.at) else {
-            return Err(self.early_end());
-        };
-        let Ok(high) = cursor.take(24) else {
-            return Err(self.early_end());
-        };
-        let Ok(low) = cursor.take(24) else {
-            return Err(self.early_end());
-        };
-        Ok((u64::from(high) << 24) | u64::from(low))
-    }
-
-    /// Goes past the end of a stream whose blocks have this checksum.
-    fn end_stream(&mut self, sum: u32) -> Result<(), Cause>
-        ensures compared { OnOk result
-            (bits_at (window_bytes self.old.window) (self.old.at + 48) 32 ≡ sum) }
+    /// Reads on, so that the next block is in the window whole, or the device's end, and further bytes for each job.
+    fn refill(&mut self, jobs: usize) -> Result<(), Cause>
+        requires { jobs ≤ 64 }
+        ensures block { self.new.block ≡ self.old.block }
+        ensures comes { Comes [] (coming_of (D.remaining self.old.device) self.old)
+            (coming_of (D.remaining self.new.device) self.new) }
+        ensures wrong { IfErr result (λ cause. cause ≡ Memory) }
+        ensures sound { has_failed self.new.window.rest ≡ false → (has_failed self.old.window.rest ≡ false)
+            × (D.failure_count self.new.device ≡ D.failure_count self.old.device) }
     {
-        let Some(mut cursor) = Cursor::new(self.window.bytes(), self.at.saturating_add(48)) else {
-            return Err(self.early_end());
-        };
-        let Ok(named) = cursor.take(32) else {
-            return Err(self.early_end());
-        };
-        if named != sum {
-            return Err(Cause::StreamChecksum);
+        if self.window.is_last() || self.window.bytes().len() - self.at / 8 >= MARGIN {
+            return Ok(());
         }
-        let end = cursor.at;
-        self.at = end.div_ceil(8).saturating_mul(8);
-        self.stage = Stage::Between;
+        self.hold(MARGIN + jobs * EACH)
+    }
+
+    /// Reads on where the window's bits end too early, or tells why no more come.
+    fn read_on(&mut self) -> Result<(), Cause>
+        ensures block { self.new.block ≡ self.old.block }
+        ensures comes { Comes [] (coming_of (D.remaining self.old.device) self.old)
+            (coming_of (D.remaining self.new.device) self.new) }
+        ensures stops { IfErr result (λ cause. (known : Option Unpacked) →
+            (self.old.window.rest ≡ NoMore → EndsBy (Some EarlyEnd) known) → Stops cause self.new.window.rest known) }
+        ensures stays { self.old.window.rest ≡ NoMore → IsSame self.old self.new }
+        ensures sound { has_failed self.new.window.rest ≡ false → (has_failed self.old.window.rest ≡ false)
+            × (D.failure_count self.new.device ≡ D.failure_count self.old.device) }
+    {
+        if self.window.has_failed() {
+            return Err(Cause::Device);
+        }
+        if self.window.is_last() {
+            return Err(Cause::EarlyEnd);
+        }
+        let size = self.window.bytes().len().saturating_add(MARGIN);
+        self.hold(size)
+    }
+
+    /// A cursor at the next bit. The window is never too long for one.
+    fn cursor(&self) -> Result<Cursor<'_>, Cause>
+        ensures bytes { IfOk result (λ c. c.bytes.now ≡ window_bytes self.now.window) }
+        ensures at { IfOk result (λ c. c.at ≡ self.now.at) }
+        ensures wrong { IfErr result (λ cause. cause ≡ Memory) }
+    {
+        match Cursor::new(self.window.bytes(), self.at) {
+            Some(cursor) => Ok(cursor),
+            None => Err(Cause::Memory),
+        }
+    }
+
+    /// Goes past the head of a stream.
+    fn begin_stream(&mut self) -> Result<(), Cause>
+        ensures begun { OnOk result (part_at Between (drop self.old.at (bits_of (window_bytes self.old.window)))
+            ≡ Ok (record {
+              given = [];
+              next = place_of self.new.stage;
+              rest = drop self.new.at (bits_of (window_bytes self.old.window));
+            })) }
+        ensures file { (self.new.device ≡ self.old.device) × (self.new.window ≡ self.old.window)
+            × (self.new.block ≡ self.old.block) }
+        ensures stays { OnErr result (IsSame self.old self.new) }
+        ensures wrong { IfErr result (λ cause.
+            IsWrong cause (part_at Between (drop self.old.at (bits_of (window_bytes self.old.window))))) }
+    {
+        let mut cursor = self.cursor()?;
+        let most = read_head(&mut cursor)?;
+        self.at = cursor.at;
+        self.stage = Stage::Inside { most, sum: 0 };
         Ok(())
     }
 
-    /// Decodes the block at this bit, and others side by side. Jobs that the team doesn't run are dropped with their
-    /// memory.
+    /// Goes past the end of a stream whose blocks have this checksum, if that is next. Else it is a block.
+    fn end_stream(&mut self, sum: u32) -> Result<bool, Cause>
+        ensures ended { IfOk result (λ ended. ended ≡ true → (most : ℕ) →
+            part_at (Inside most sum) (drop self.old.at (bits_of (window_bytes self.old.window)))
+            ≡ Ok (record {
+              given = [];
+              next = place_of self.new.stage;
+              rest = drop self.new.at (bits_of (window_bytes self.old.window));
+            })) }
+        ensures block { IfOk result (λ ended. ended ≡ false → (most : ℕ) →
+            part_at (Inside most sum) (drop self.old.at (bits_of (window_bytes self.old.window)))
+            ≡ block_in most sum (drop self.old.at (bits_of (window_bytes self.old.window)))) }
+        ensures same { IfOk result (λ ended. ended ≡ false → IsSame self.old self.new) }
+        ensures file { (self.new.device ≡ self.old.device) × (self.new.window ≡ self.old.window)
+            × (self.new.block ≡ self.old.block) }
+        ensures stays { OnErr result (IsSame self.old self.new) }
+        ensures wrong { IfErr result (λ cause. (most : ℕ) →
+            IsWrong cause (part_at (Inside most sum) (drop self.old.at (bits_of (window_bytes self.old.window))))) }
+    {
+        let mut cursor = self.cursor()?;
+        match read_magic(&mut cursor) {
+            Ok(END_MAGIC) => {}
+            Ok(_) => return Ok(false),
+            Err(fault) => return Err(cause_of(fault)),
+        }
+        read_end(&mut cursor, sum)?;
+        self.at = cursor.at;
+        self.stage = Stage::Between;
+        Ok(true)
+    }
+
+    /// Decodes the block at this bit, and others side by side.
     fn decode<T: Team>(&mut self, team: &T) -> Result<(), AllocError>
         requires { T.is_ready team.now }
+        ensures { IsSame self.old self.new }
     {
         self.dealt = 0;
         self.next = 0;
-        let count = team.jobs();
-        self.jobs.truncate(count);
-        for _ in self.jobs.len()..count {
-            self.jobs.push(Job::new(self.alloc))?;
-        }
+        fill_jobs(self.alloc, &mut self.jobs, team.jobs())?;
         let bytes = self.window.bytes();
         let end = if self.window.is_last() {
             usize::MAX
@@ -190,21 +240,24 @@ impl<D: Source> Streams<D> {
         let (done, dealt) = decode_from(team, jobs, bytes, self.at, end)?;
         self.jobs = done;
         self.dealt = dealt;
-        self.next = 0;
         Ok(())
     }
 
     /// Takes the block that was decoded at this bit, and tells whether there is one.
     fn take_front(&mut self, most: usize, sum: u32) -> Result<bool, Cause>
         ensures taken { IfOk result (λ taken. taken ≡ true →
-            block_at (drop self.old.at (bits_of (window_bytes self.old.window)))
-            ≡ Ok (
-              record { checksum = self.new.block.checksum; text = self.new.block.text.items },
-              drop self.new.at (bits_of (window_bytes self.old.window)),
-            )) }
-        ensures size { IfOk result (λ taken. taken ≡ true → vec_len self.new.block.text ≤ most) }
-        ensures summed { IfOk result (λ taken. taken ≡ true →
-            self.new.stage ≡ Inside most (bit_xor (rotate_left w32 sum 1) self.new.block.checksum)) }
+            block_in most sum (drop self.old.at (bits_of (window_bytes self.old.window)))
+            ≡ Ok (record {
+              given = left_of self.new.block;
+              next = place_of self.new.stage;
+              rest = drop self.new.at (bits_of (window_bytes self.old.window));
+            })) }
+        ensures none { IfOk result (λ taken. taken ≡ false → IsSame self.old self.new) }
+        ensures file { (self.new.device ≡ self.old.device) × (self.new.window ≡ self.old.window) }
+        ensures stays { OnErr result ((self.new.at ≡ self.old.at) × (self.new.stage ≡ self.old.stage)
+            × (left_of self.old.block ≡ [] → left_of self.new.block ≡ [])) }
+        ensures wrong { IfErr result (λ cause.
+            IsWrong cause (block_in most sum (drop self.old.at (bits_of (window_bytes self.old.window))))) }
     {
         if self.next >= self.dealt {
             return Ok(false);
@@ -214,8 +267,7 @@ impl<D: Source> Streams<D> {
         };
         let text = match lane.text(self.at) {
             Some(Ok(text)) => text,
-            Some(Err(BlockFault::ShortBlock)) => return Err(self.early_end()),
-            Some(Err(fault)) => return Err(Cause::Block(fault)),
+            Some(Err(fault)) => return Err(cause_of(fault)),
             None => return Ok(false),
         };
         if text.size > most {
@@ -234,14 +286,19 @@ impl<D: Source> Streams<D> {
 
     /// Goes past the next block or the end of the stream.
     fn go_on<T: Team>(&mut self, team: &T, most: usize, sum: u32) -> Result<(), Cause>
-        requires { T.is_ready team.now }
+        requires ready { T.is_ready team.now }
+        requires place { place_of self.old.stage ≡ Inside most sum }
+        requires given { left_of self.old.block ≡ [] }
+        ensures part { OnOk result (GoesOn (bits_of (window_bytes self.old.window)) (Inside most sum) self.old.at
+            (place_of self.new.stage) self.new.at (left_of self.new.block)) }
+        ensures file { (self.new.device ≡ self.old.device) × (self.new.window ≡ self.old.window) }
+        ensures stays { OnErr result ((self.new.at ≡ self.old.at) × (self.new.stage ≡ self.old.stage)
+            × (left_of self.new.block ≡ [])) }
+        ensures wrong { IfErr result (λ cause.
+            IsWrong cause (part_at (Inside most sum) (drop self.old.at (bits_of (window_bytes self.old.window))))) }
     {
-        let magic = self.magic()?;
-        if magic == END_MAGIC {
-            return self.end_stream(sum);
-        }
-        if magic != MAGIC {
-            return Err(Cause::Block(BlockFault::NoBlock));
+        if self.end_stream(sum)? {
+            return Ok(());
         }
         if self.next >= self.dealt && self.decode(team).is_err() {
             return Err(Cause::Memory);
@@ -252,49 +309,124 @@ impl<D: Source> Streams<D> {
         Ok(())
     }
 
-    /// Passes what was decoded before this bit, and reads on if nothing is left.
-    fn prepare(&mut self, jobs: usize) -> Result<(), Cause>
-        requires { jobs ≤ 64 }
+    /// Takes the next part in the window.
+    fn take_part<T: Team>(&mut self, team: &T) -> Result<(), Cause>
+        requires ready { T.is_ready team.now }
+        requires given { left_of self.old.block ≡ [] }
+        ensures part { OnOk result (GoesOn (bits_of (window_bytes self.old.window))
+            (place_of self.old.stage) self.old.at
+            (place_of self.new.stage) self.new.at (left_of self.new.block)) }
+        ensures file { (self.new.device ≡ self.old.device) × (self.new.window ≡ self.old.window) }
+        ensures stays { OnErr result ((self.new.at ≡ self.old.at) × (self.new.stage ≡ self.old.stage)
+            × (left_of self.new.block ≡ [])) }
+        ensures wrong { IfErr result (λ cause. IsWrong cause
+            (part_at (place_of self.old.stage) (drop self.old.at (bits_of (window_bytes self.old.window))))) }
     {
+        match self.stage {
+            Stage::Between => self.begin_stream(),
+            Stage::Inside { most, sum } => self.go_on(team, most, sum),
+        }
+    }
+
+    /// The number of the first lane that wasn't passed, or how many there are.
+    fn next_lane(&self) -> usize
+        ensures { self.now.next ≤ result }
+    {
+        let mut next = self.next;
         for _ in self.next..self.dealt.max(self.next) {
-            if let Some(lane) = lane_of(self.jobs.as_slice(), self.next)
+            if let Some(lane) = lane_of(self.jobs.as_slice(), next)
                 && let Some(start) = lane.start()
                 && start >= self.at
             {
-                return Ok(());
+                return next;
             }
-            self.next = self.next.saturating_add(1);
+            next = next.saturating_add(1);
+        }
+        next
+    }
+
+    /// Passes what was decoded before this bit, and reads on if nothing is left.
+    fn prepare(&mut self, jobs: usize) -> Result<(), Cause>
+        requires { jobs ≤ 64 }
+        ensures block { self.new.block ≡ self.old.block }
+        ensures comes { Comes [] (coming_of (D.remaining self.old.device) self.old)
+            (coming_of (D.remaining self.new.device) self.new) }
+        ensures wrong { IfErr result (λ cause. cause ≡ Memory) }
+        ensures sound { has_failed self.new.window.rest ≡ false → (has_failed self.old.window.rest ≡ false)
+            × (D.failure_count self.new.device ≡ D.failure_count self.old.device) }
+    {
+        self.next = self.next_lane();
+        if self.next < self.dealt {
+            return Ok(());
         }
         self.refill(jobs)
+    }
+
+    /// Whether the last stream ended, and nothing comes after it.
+    fn is_at_end(&self) -> bool
+        ensures yes { result ≡ true → (place_of self.now.stage ≡ Between) × (self.now.window.rest ≡ NoMore)
+            × (drop self.now.at (bits_of (window_bytes self.now.window)) ≡ []) }
+        ensures no { result ≡ false → self.now.window.rest ≡ NoMore →
+            IsMore (place_of self.now.stage) (drop self.now.at (bits_of (window_bytes self.now.window))) }
+    {
+        match self.stage {
+            Stage::Between => {}
+            Stage::Inside { .. } => return false,
+        }
+        if !self.window.is_last() || self.window.has_failed() {
+            return false;
+        }
+        self.at / 8 >= self.window.bytes().len()
     }
 
     /// Takes one step: past the head or the end of a stream, or a block. It is seldom, and what it needs is not to be
     /// cleared at each read.
     #[inline(never)]
     fn step<T: Team>(&mut self, team: &T) -> Result<(), Cause>
-        requires { T.is_ready team.now }
+        requires ready { T.is_ready team.now }
+        requires given { left_of self.old.block ≡ [] }
+        ensures comes { Comes [] (coming_of (D.remaining self.old.device) self.old)
+            (coming_of (D.remaining self.new.device) self.new) }
+        ensures stops { IfErr result (λ cause. Stops cause self.new.window.rest
+            (coming_of (D.remaining self.new.device) self.new)) }
+        ensures sound { has_failed self.new.window.rest ≡ false → (has_failed self.old.window.rest ≡ false)
+            × (D.failure_count self.new.device ≡ D.failure_count self.old.device) }
     {
         self.prepare(team.jobs())?;
-        match self.stage {
-            Stage::Between => self.begin_stream(),
-            Stage::Inside { most, sum } => self.go_on(team, most, sum),
-            Stage::Ended => Ok(()),
+        if self.is_at_end() {
+            return Ok(());
+        }
+        match self.take_part(team) {
+            Ok(()) => Ok(()),
+            Err(cause) => match cause {
+                Cause::EarlyEnd => self.read_on(),
+                _ => Err(cause),
+            },
         }
     }
 
     /// Goes on until there are bytes to give, or none will come.
     pub(crate) fn advance<T: Team>(&mut self, team: &T) -> Result<(), Cause>
         requires { T.is_ready team.now }
+        ensures comes { Comes [] (coming_of (D.remaining self.old.device) self.old)
+            (coming_of (D.remaining self.new.device) self.new) }
+        ensures ends { OnOk result (left_of self.new.block ≡ [] → (self.new.window.rest ≡ NoMore)
+            × EndsBy None (coming_of (D.remaining self.new.device) self.new)) }
+        ensures stops { IfErr result (λ cause. Stops cause self.new.window.rest
+            (coming_of (D.remaining self.new.device) self.new)) }
+        ensures sound { has_failed self.new.window.rest ≡ false → (has_failed self.old.window.rest ≡ false)
+            × (D.failure_count self.new.device ≡ D.failure_count self.old.device) }
     {
         for _ in 0..u64::MAX {
             if !self.block.is_given() {
                 return Ok(());
             }
-            if let Stage::Ended = self.stage {
+            if self.is_at_end() {
                 return Ok(());
             }
             self.step(team)?;
         }
-        Ok(())
+        // So many steps are never taken.
+        Err(Cause::Memory)
     }
 }

@@ -1,5 +1,6 @@
 // A stretch of a device's bytes.
-ghost use Rattle.std.specs.Prelude.{◌≡◌, ◌≤◌, ◌<◌, take, drop, length, vec_len, OnOk};
+ghost use Rattle.std.specs.Prelude.{◌≡◌, ◌≤◌, ◌<◌, ◌+◌, take, drop, length, vec_len, OnOk, false};
+ghost use Rattle.mrt_frame.specs.Devices.{CountsFailure};
 ghost use Rattle.std.specs.Io.KnownBytes.{Keeps, ReadConsumes};
 ghost use Rattle.std.specs.Io.{ReadsAtMost};
 ghost use Rattle.bzip2_reader.specs.Stretches.{has_failed, is_last, known_behind, known_whole};
@@ -25,6 +26,7 @@ fn read_behind<D: Source>(device: &mut D, block: &mut [u8], filled: usize) -> Re
     ensures front { take filled block.new ≡ take filled block.old }
     ensures bound { ReadsAtMost result (drop filled block.new) }
     ensures bytes { ReadConsumes (D.remaining device.old) (D.remaining device.new) result (drop filled block.new) }
+    ensures counted { CountsFailure (D.failure_count device.old) (D.failure_count device.new) result }
 {
     device.read_some(&mut block[filled..])
 }
@@ -42,7 +44,9 @@ pub(crate) struct Window {
 
 impl Window {
     /// Begins with the device's first bytes, which were read already.
-    pub(crate) fn new(front: Vec<u8>) -> Window {
+    pub(crate) fn new(front: Vec<u8>) -> Window
+        ensures { (result.block ≡ front) × (result.filled ≡ vec_len front) × (result.rest ≡ More) }
+    {
         Window {
             filled: front.len(),
             block: front,
@@ -91,6 +95,7 @@ impl Window {
     fn drop_front(&mut self, used: usize)
         requires { used ≤ self.old.filled }
         ensures left { take self.new.filled self.new.block.items ≡ drop used (take self.old.filled self.old.block.items) }
+        ensures filled { self.new.filled + used ≡ self.old.filled }
         ensures rest { self.new.rest ≡ self.old.rest }
     {
         self.block.copy_within(used..self.filled, 0);
@@ -104,6 +109,9 @@ impl Window {
         requires more { self.old.rest ≡ More }
         ensures bytes { Keeps (known_whole self.old.block.items self.old.filled self.old.rest (D.remaining device.old))
             (known_whole self.new.block.items self.new.filled self.new.rest (D.remaining device.new)) }
+        ensures grows { self.old.filled ≤ self.new.filled }
+        ensures sound { has_failed self.new.rest ≡ false →
+            (D.failure_count device.new ≡ D.failure_count device.old) }
     {
         match read_behind(device, self.block.as_mut_slice(), self.filled) {
             Ok(0) => self.rest = Rest::None,
@@ -123,6 +131,9 @@ impl Window {
         ensures bytes { Keeps
             (known_behind used (known_whole self.old.block.items self.old.filled self.old.rest (D.remaining device.old)))
             (known_whole self.new.block.items self.new.filled self.new.rest (D.remaining device.new)) }
+        ensures grows { self.old.filled ≤ used + self.new.filled }
+        ensures sound { has_failed self.new.rest ≡ false →
+            (has_failed self.old.rest ≡ false) × (D.failure_count device.new ≡ D.failure_count device.old) }
     {
         self.drop_front(used);
         for _ in 0..u64::MAX {
