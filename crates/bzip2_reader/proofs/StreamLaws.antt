@@ -2,11 +2,14 @@
 use Rattle.std.proofs.Common.{◌≡◌, ◌≢◌, ◌≤◌, ◌*◌, ℕ, Option, Some, None, Err, List, [], drop, length, sym, ◌∙◌, ap, arith, subst}
 use Rattle.bzip2_reader.specs.declared.fault.Cause.{Cause}
 use Rattle.bzip2_reader.specs.declared.fault.Cause.TheVariants.{EarlyEnd}
+use Rattle.bzip2_reader.specs.declared.fault.Damage.{Damage}
+use Rattle.bzip2_reader.specs.declared.phase.Phase.{Phase}
+use Rattle.bzip2_reader.specs.declared.phase.Phase.TheVariants.{Ended, Open}
 use Rattle.bzip2_reader.specs.declared.streams.Streams.{Streams}
 use Rattle.bzip2_reader.specs.declared.window.Rest.TheVariants.{None as NoMore}
-use Rattle.bzip2_reader.specs.Coming.{Comes, EndsBy, GoesOn, IsWrong, Stops, coming}
+use Rattle.bzip2_reader.specs.Coming.{Comes, EndsBy, GoesOn, IsWrong, Stops, coming, still}
 use Rattle.bzip2_reader.specs.Fields.{bits_of}
-use Rattle.bzip2_reader.specs.Files.{Between, IsMore, Unpacked, part_at}
+use Rattle.bzip2_reader.specs.Files.{Between, IsMore, Place, Unpacked, part_at}
 use Rattle.bzip2_reader.specs.Left.{left_of}
 use Rattle.bzip2_reader.specs.StreamViews.{coming_of, place_of}
 use Rattle.bzip2_reader.specs.Stretches.{known_whole}
@@ -74,3 +77,18 @@ module _ (D : Type 0) (left : D → Option (List ℕ)) where
   pub none_here : (s : Streams D) → left_of s.block ≡ [] → s.window.rest ≡ NoMore → place_of s.stage ≡ Between → drop s.at (bits_here s) ≡ [] → EndsBy None (comes_of s)
   none_here s given none between end =
       subst (EndsBy None) (sym (behind_of s given)) (part_none s.window.block.items s.window.filled s.window.rest (left s.device) (place_of s.stage) s.at none between end)
+
+-- ---- the end of a reader
+
+none_given : (phase : Phase) (damage : Option Damage) (old now bytes : List ℕ) (place : Place) (at : ℕ) (known : Option (List ℕ)) → phase ≡ Ended → damage ≡ None → bytes ≡ [] → EndsBy None (coming old place at known) →
+    Comes bytes (coming old place at known) (still phase damage (coming now place at known))
+none_given phase damage old now bytes place at None ended none empty ends = tt
+none_given phase damage old now bytes place at (Some xs) ended none empty ends =
+    subst (λ (p : Phase). Comes bytes (coming old place at (Some xs)) (still p damage (coming now place at (Some xs)))) (sym ended)
+    (subst (λ (d : Option Damage). Comes bytes (coming old place at (Some xs)) (still Ended d (coming now place at (Some xs)))) (sym none)
+    (subst (λ (l : List ℕ). Comes l (coming old place at (Some xs)) (still Ended None (coming now place at (Some xs)))) (sym empty) ends))
+
+pub gave_none : (phase phase2 : Phase) (damage damage2 : Option Damage) (old now bytes : List ℕ) (place : Place) (at : ℕ) (known : Option (List ℕ)) → phase ≡ Open → phase2 ≡ Ended → damage2 ≡ None → bytes ≡ [] →
+    EndsBy None (coming old place at known) → Comes bytes (still phase damage (coming old place at known)) (still phase2 damage2 (coming now place at known))
+gave_none phase phase2 damage damage2 old now bytes place at known opened ended none empty ends =
+    subst (λ (p : Phase). Comes bytes (still p damage (coming old place at known)) (still phase2 damage2 (coming now place at known))) (sym opened) (none_given phase2 damage2 old now bytes place at known ended none empty ends)

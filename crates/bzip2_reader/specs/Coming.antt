@@ -1,9 +1,13 @@
 -- What is still to come of a file: its bytes, and how they end.
-use Rattle.std.specs.Prelude.{◌≡◌, ◌⊎◌, ℕ, List, [], Option, Some, None, Result, Ok, Err, drop, true}
+use Rattle.std.specs.Prelude.{◌≡◌, ◌⊎◌, ℕ, List, [], Option, Some, None, Result, Ok, Err, drop, take, true}
 use Rattle.std.specs.Option.{option_map}
 use Rattle.bzip2_reader.specs.declared.fault.Cause.{Cause}
 use Rattle.bzip2_reader.specs.declared.fault.Cause.TheVariants.{Device, EarlyEnd, Memory}
+use Rattle.bzip2_reader.specs.declared.fault.Damage.{Damage}
+use Rattle.bzip2_reader.specs.declared.phase.Phase.{Phase}
+use Rattle.bzip2_reader.specs.declared.phase.Phase.TheVariants.{Open, Ended, Broken}
 use Rattle.bzip2_reader.specs.declared.window.Rest.{Rest}
+use Rattle.mrt_frame.specs.declared.device.Failed.{Failed}
 use Rattle.bzip2_reader.specs.declared.window.Rest.TheVariants.{None as NoMore}
 use Rattle.bzip2_reader.specs.Fields.{bits_of}
 use Rattle.bzip2_reader.specs.Files.{Part, Place, Unpacked, after_part, part_at, unpack}
@@ -27,11 +31,27 @@ GoesOn bits place at place2 at2 given =
 abbrev pub coming : List ℕ → Place → ℕ → Option (List ℕ) → Option Unpacked
 coming left place at known = option_map (λ bytes. after_part left (unpack place (drop at (bits_of bytes)))) known
 
+-- Whether more bytes can come tells what does: after the end nothing, for what damage there was, and after a failure what
+-- did before.
+abbrev pub still : Phase → Option Damage → Option Unpacked → Option Unpacked
+still Open damage coming = coming
+still Ended damage coming = option_map (λ _. record { given = []; damage = option_map (λ d. d.cause) damage }) coming
+still Broken damage coming = coming
+
+-- the bytes of what comes
+abbrev pub given_of : Option Unpacked → Option (List ℕ)
+given_of coming = option_map (λ u. u.given) coming
+
 -- these bytes come next, and then the rest
 abbrev pub Comes : List ℕ → Option Unpacked → Option Unpacked → Type 0
 Comes bytes None new = Unit {0}
 Comes bytes (Some u) None = ⊥
 Comes bytes (Some u) (Some v) = u ≡ after_part bytes v
+
+-- A read gave the bytes that come next, or failed and gave none.
+abbrev pub ReadComes : Option Unpacked → Option Unpacked → Result ℕ Failed → List ℕ → Type 0
+ReadComes old new (Ok n) buffer = Comes (take n buffer) old new
+ReadComes old new (Err failed) buffer = Comes [] old new
 
 -- nothing comes, for this cause if there is one
 abbrev pub EndsBy : Option Cause → Option Unpacked → Type 0

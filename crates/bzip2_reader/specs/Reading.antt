@@ -1,10 +1,14 @@
 -- What a reader is after a read.
-use Rattle.std.specs.Prelude.{◌≡◌, ◌≤◌, ◌-◌, ℕ, List, IsTrue, Option, None, drop, take}
+use Rattle.std.specs.Prelude.{◌≡◌, ◌≤◌, ◌-◌, ℕ, Bool, List, IsTrue, Option, None, drop, take}
 use Rattle.bzip2_reader.specs.declared.fault.Damage.{Damage}
 use Rattle.bzip2_reader.specs.declared.phase.Phase.TheVariants.{Open, Ended, Broken}
 use Rattle.bzip2_reader.specs.declared.reader.Bunzip.{Bunzip}
+use Rattle.bzip2_reader.specs.Coming.{still}
 use Rattle.bzip2_reader.specs.Endings.{agrees}
+use Rattle.bzip2_reader.specs.Files.{Unpacked}
 use Rattle.bzip2_reader.specs.Runs.{count_written, written}
+use Rattle.bzip2_reader.specs.StreamViews.{coming_of}
+use Rattle.bzip2_reader.specs.Stretches.{has_failed}
 
 -- what ended the bytes, if it was not the end of the last stream
 abbrev pub damage_of : {D : Type 0} → Bunzip D → Option Damage
@@ -13,6 +17,14 @@ damage_of b = b.ending.damage
 -- the device that it reads from
 abbrev pub device_of : {D : Type 0} → Bunzip D → D
 device_of b = b.streams.device
+
+-- a read of the device failed
+abbrev pub device_failed : {D : Type 0} → Bunzip D → Bool
+device_failed b = has_failed b.streams.window.rest
+
+-- what comes, where the device is known to have these bytes left
+abbrev pub to_come : {D : Type 0} → Option (List ℕ) → Bunzip D → Option Unpacked
+to_come known b = still b.ending.phase b.ending.damage (coming_of known b.streams)
 
 -- all bytes were given: there is no damage, or one of the data
 abbrev pub HasEnded : {D : Type 0} → Bunzip D → Type 0

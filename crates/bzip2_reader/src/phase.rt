@@ -38,7 +38,8 @@ impl Ending {
 
     /// The last stream ended.
     pub(crate) fn whole() -> Ending
-        ensures { result.phase ≡ Ended }
+        ensures phase { result.phase ≡ Ended }
+        ensures damage { result.damage ≡ None }
     {
         Ending {
             phase: Phase::Ended,
