@@ -180,11 +180,12 @@ pub(crate) struct Block {
 }
 
 impl Block {
-    ghost use Rattle.bzip2_reader.specs.Left.{left_of};
+    ghost use Rattle.bzip2_reader.specs.Left.{IsFresh, left_of};
 
     /// No bytes.
     pub(crate) fn new(alloc: Global) -> Block
-        ensures { left_of result ≡ [] }
+        ensures left { left_of result ≡ [] }
+        ensures fresh { IsFresh result }
     {
         Block {
             text: Vec::new(alloc),
@@ -202,7 +203,7 @@ impl Block {
     ) -> Result<Block, Cause>
         ensures named { IfOk result (λ b. b.checksum ≡ checksum) }
         ensures text { IfOk result (λ b. b.text.items ≡ raw.now) }
-        ensures fresh { IfOk result (λ b. left_of b ≡ written b.text.items) }
+        ensures fresh { IfOk result (λ b. IsFresh b) }
         ensures wrong { IfErr result (λ cause. (cause ≡ Memory)
             ⊎ ((cause ≡ TheBlock BadChecksum) × (checksum_of (written raw.now) ≢ checksum))) }
     {

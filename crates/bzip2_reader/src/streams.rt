@@ -73,7 +73,7 @@ pub(crate) struct Streams<D> {
 }
 
 impl<D: Source> Streams<D> {
-    ghost use Rattle.bzip2_reader.specs.Left.{left_of};
+    ghost use Rattle.bzip2_reader.specs.Left.{Follows, IsFresh, left_of};
     ghost use Rattle.bzip2_reader.specs.StreamViews.{IsSame, coming_of, place_of};
 
     /// Begins with these bytes, which are followed by the device's.
@@ -252,6 +252,7 @@ impl<D: Source> Streams<D> {
               next = place_of self.new.stage;
               rest = drop self.new.at (bits_of (window_bytes self.old.window));
             })) }
+        ensures block { (self.new.block ≡ self.old.block) ⊎ IsFresh self.new.block }
         ensures none { IfOk result (λ taken. taken ≡ false → IsSame self.old self.new) }
         ensures file { (self.new.device ≡ self.old.device) × (self.new.window ≡ self.old.window) }
         ensures stays { OnErr result ((self.new.at ≡ self.old.at) × (self.new.stage ≡ self.old.stage)
@@ -291,6 +292,7 @@ impl<D: Source> Streams<D> {
         requires given { left_of self.old.block ≡ [] }
         ensures part { OnOk result (GoesOn (bits_of (window_bytes self.old.window)) (Inside most sum) self.old.at
             (place_of self.new.stage) self.new.at (left_of self.new.block)) }
+        ensures block { (self.new.block ≡ self.old.block) ⊎ IsFresh self.new.block }
         ensures file { (self.new.device ≡ self.old.device) × (self.new.window ≡ self.old.window) }
         ensures stays { OnErr result ((self.new.at ≡ self.old.at) × (self.new.stage ≡ self.old.stage)
             × (left_of self.new.block ≡ [])) }
@@ -316,6 +318,7 @@ impl<D: Source> Streams<D> {
         ensures part { OnOk result (GoesOn (bits_of (window_bytes self.old.window))
             (place_of self.old.stage) self.old.at
             (place_of self.new.stage) self.new.at (left_of self.new.block)) }
+        ensures block { (self.new.block ≡ self.old.block) ⊎ IsFresh self.new.block }
         ensures file { (self.new.device ≡ self.old.device) × (self.new.window ≡ self.old.window) }
         ensures stays { OnErr result ((self.new.at ≡ self.old.at) × (self.new.stage ≡ self.old.stage)
             × (left_of self.new.block ≡ [])) }
@@ -387,6 +390,7 @@ impl<D: Source> Streams<D> {
         requires given { left_of self.old.block ≡ [] }
         ensures comes { Comes [] (coming_of (D.remaining self.old.device) self.old)
             (coming_of (D.remaining self.new.device) self.new) }
+        ensures block { (self.new.block ≡ self.old.block) ⊎ IsFresh self.new.block }
         ensures stops { IfErr result (λ cause. Stops cause self.new.window.rest
             (coming_of (D.remaining self.new.device) self.new)) }
         ensures sound { has_failed self.new.window.rest ≡ false → (has_failed self.old.window.rest ≡ false)
@@ -410,6 +414,7 @@ impl<D: Source> Streams<D> {
         requires { T.is_ready team.now }
         ensures comes { Comes [] (coming_of (D.remaining self.old.device) self.old)
             (coming_of (D.remaining self.new.device) self.new) }
+        ensures block { Follows self.old.block self.new.block }
         ensures ends { OnOk result (left_of self.new.block ≡ [] → (self.new.window.rest ≡ NoMore)
             × EndsBy None (coming_of (D.remaining self.new.device) self.new)) }
         ensures stops { IfErr result (λ cause. Stops cause self.new.window.rest
