@@ -17,6 +17,7 @@ pub mod RestLaws
 pub mod ShareLaws
 pub mod WindowLaws
 pub mod BlocksLaws
+mod DynamicLaws
 pub mod FastLaws
 pub mod PlaceLaws
 pub mod HeaderLaws

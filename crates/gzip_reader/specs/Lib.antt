@@ -21,3 +21,4 @@ pub mod Views
 pub mod Fast
 pub mod Rest
 pub mod Places
+pub mod Dynamic
