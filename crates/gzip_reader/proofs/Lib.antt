@@ -25,3 +25,4 @@ pub mod StoredLaws
 pub mod TrailerLaws
 pub mod StartLaws
 pub mod OthersLaws
+pub mod BlockStartLaws

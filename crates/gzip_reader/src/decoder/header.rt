@@ -30,7 +30,7 @@ const MAGIC: u64 = 0x8b1f;
 impl Decoder {
     ghost use Rattle.gzip_reader.specs.Bits.{bits_left, held};
     ghost use Rattle.gzip_reader.specs.Members.{StaysInside, ComesAfter};
-    ghost use Rattle.gzip_reader.specs.Places.{Advances, IsFresh, ReadsHeader, TakesField, TakesFlags, TakesMethod};
+    ghost use Rattle.gzip_reader.specs.Places.{Advances, IsFresh, IsPlaced, ReadsHeader, TakesField, TakesFlags, TakesMethod, phase_after};
 
     /// Takes a byte of the header.
     fn header_byte(&mut self) -> Result<u32, Flaw>
@@ -117,6 +117,10 @@ impl Decoder {
         ensures inside { StaysInside result }
         ensures advances { (more : List ℕ) → (self.old.input.is_at_end ≡ true → more ≡ []) → Advances self.old self.new Member more result }
         ensures fresh { IfOk result (λ step. step ≡ To ExtraLength → IsFresh self.new) }
+        ensures placed { IfOk result (λ step. IsPlaced self.new (phase_after Member step)) }
+        ensures given { self.new.output.given ≡ self.old.output.given }
+        ensures output { (self.new.output.bytes ≡ self.old.output.bytes) × (self.new.output.filled ≡ self.old.output.filled) }
+        ensures end { self.new.input.is_at_end ≡ self.old.input.is_at_end }
     {
         if !self.input.has(HEADER) {
             return Ok(Step::Pause);
@@ -140,6 +144,7 @@ impl Decoder {
         ensures flags { self.new.flags ≡ flags }
         ensures same { (self.new.input ≡ self.old.input) × (self.new.header_register ≡ self.old.header_register) }
         ensures output { (self.new.output.bytes ≡ self.old.output.bytes) × (self.new.output.filled ≡ self.old.output.filled) }
+        ensures given { self.new.output.given ≡ self.old.output.given }
     {
         self.flags = flags;
         self.register = u32::MAX;
@@ -152,6 +157,7 @@ impl Decoder {
         ensures after { ComesAfter self.old self.new result }
         ensures advances { (more : List ℕ) → bits_left self.old.input % 8 ≡ 0 → (self.old.input.is_at_end ≡ true → more ≡ []) → Advances self.old self.new BetweenMembers more result }
         ensures same { ReadsHeader self.old self.new }
+        ensures placed { bits_left self.old.input % 8 ≡ 0 → IfOk result (λ step. IsPlaced self.new (phase_after BetweenMembers step)) }
     {
         if !self.input.has(2) {
             return Ok(Step::Pause);
@@ -178,6 +184,7 @@ impl Decoder {
         ensures inside { StaysInside result }
         ensures advances { (more : List ℕ) → (self.old.input.is_at_end ≡ true → more ≡ []) → Advances self.old self.new ExtraLength more result }
         ensures same { ReadsHeader self.old self.new }
+        ensures placed { IsFresh self.old → IfOk result (λ step. IsPlaced self.new (phase_after ExtraLength step)) }
     {
         if self.flags & FEXTRA == 0 {
             return Ok(Step::To(Phase::Name));
@@ -199,6 +206,7 @@ impl Decoder {
         ensures inside { StaysInside result }
         ensures advances { (more : List ℕ) → (self.old.input.is_at_end ≡ true → more ≡ []) → Advances self.old self.new (Extra left) more result }
         ensures same { ReadsHeader self.old self.new }
+        ensures placed { IsFresh self.old → IfOk result (λ step. IsPlaced self.new (phase_after (Extra left) step)) }
     {
         if left == 0 {
             return Ok(Step::To(Phase::Name));
@@ -217,6 +225,7 @@ impl Decoder {
         ensures inside { StaysInside result }
         ensures advances { (more : List ℕ) → (self.old.input.is_at_end ≡ true → more ≡ []) → Advances self.old self.new Name more result }
         ensures same { ReadsHeader self.old self.new }
+        ensures placed { IsFresh self.old → IfOk result (λ step. IsPlaced self.new (phase_after Name step)) }
     {
         if self.flags & FNAME == 0 {
             return Ok(Step::To(Phase::Comment));
@@ -236,6 +245,7 @@ impl Decoder {
         ensures inside { StaysInside result }
         ensures advances { (more : List ℕ) → (self.old.input.is_at_end ≡ true → more ≡ []) → Advances self.old self.new Comment more result }
         ensures same { ReadsHeader self.old self.new }
+        ensures placed { IsFresh self.old → IfOk result (λ step. IsPlaced self.new (phase_after Comment step)) }
     {
         if self.flags & FCOMMENT == 0 {
             return Ok(Step::To(Phase::HeaderCheck));
@@ -255,6 +265,7 @@ impl Decoder {
         ensures inside { StaysInside result }
         ensures advances { (more : List ℕ) → IsFresh self.old → (self.old.input.is_at_end ≡ true → more ≡ []) → Advances self.old self.new HeaderCheck more result }
         ensures same { ReadsHeader self.old self.new }
+        ensures placed { IsFresh self.old → IfOk result (λ step. IsPlaced self.new (phase_after HeaderCheck step)) }
     {
         if self.flags & FHCRC == 0 {
             return Ok(Step::To(Phase::BlockHeader));

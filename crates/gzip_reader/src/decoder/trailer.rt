@@ -16,7 +16,7 @@ const TRAILER: usize = 8;
 impl Decoder {
     ghost use Rattle.gzip_reader.specs.Bits.{bits_left, held, unread};
     ghost use Rattle.gzip_reader.specs.Members.{IsAccounted, LeavesMember};
-    ghost use Rattle.gzip_reader.specs.Places.{Advances};
+    ghost use Rattle.gzip_reader.specs.Places.{Advances, IsPlaced, phase_after};
     ghost use Rattle.gzip_reader.specs.Steps.{IsSameBlock};
 
     /// The trailer.
@@ -27,6 +27,7 @@ impl Decoder {
         ensures aligned { IfOk result (λ step. step ≡ To BetweenMembers → bits_left self.new.input % 8 ≡ 0) }
         ensures same { IsSameBlock self.old self.new }
         ensures output { self.new.output ≡ self.old.output }
+        ensures placed { IfOk result (λ step. IsPlaced self.new (phase_after Trailer step)) }
     {
         is_word(self.count);
         if !self.input.has(TRAILER) {
