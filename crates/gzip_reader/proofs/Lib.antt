@@ -16,6 +16,7 @@ pub mod WordLaws
 pub mod RestLaws
 pub mod ShareLaws
 pub mod WindowLaws
+pub mod KeptLaws
 pub mod BlocksLaws
 mod DynamicLaws
 pub mod FastLaws
@@ -26,3 +27,6 @@ pub mod TrailerLaws
 pub mod StartLaws
 pub mod OthersLaws
 pub mod BlockStartLaws
+pub mod BehindLaws
+pub mod SlideLaws
+pub mod AheadLaws

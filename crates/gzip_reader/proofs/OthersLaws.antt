@@ -18,7 +18,8 @@ use Rattle.gzip_reader.specs.declared.fault.Flaw.{Flaw}
 use Rattle.gzip_reader.specs.declared.fault.Flaw.TheVariants.{Checksum, Flags, HeaderCheck, Length, Magic, Method, Trailing, Truncated}
 use Rattle.gzip_reader.proofs.BitLaws.{all_there, lowest_word}
 use Rattle.gzip_reader.proofs.BlockLaws.{bind_ok, number_shorter, same_read}
-use Rattle.gzip_reader.proofs.BlocksLaws.{LeavesAtMost, block_leaves, followed_by_same, guard_ok, leaves_less, left_within, unpack_leaves}
+use Rattle.gzip_reader.proofs.BlocksLaws.{LeavesAtMost, block_shorter, followed_by_same, leaves_less, left_within, unpack_leaves}
+use Rattle.gzip_reader.proofs.KeptLaws.{guard_ok}
 use Rattle.gzip_reader.proofs.FieldLaws.{length_bits, number_of_bits, take_bits}
 use Rattle.gzip_reader.proofs.HeaderLaws.{number_takes, same_decoded}
 
@@ -139,7 +140,7 @@ blocks_leave (suc most) before bits =
     let one = number_shorter 1 last bits rest e in
     let two = number_shorter 2 type rest data_bits f in
     followed_leaves (length bits) (block_of type before data_bits).bytes (block_of type before data_bits).ending _ (λ more g.
-    let less = left_within (length data_bits) (block_of type before data_bits).ending more (block_leaves type before data_bits) g in
+    let less = block_shorter type before data_bits more g in
     elim (cases_Bool (eqb last 1)) [
       | inl yes_last ↦ rw yes_last (omega arith)
       | inr not_last ↦ rw not_last (leaves_less (length more) (length bits) _ (omega arith) (blocks_leave most (before ++ (block_of type before data_bits).bytes) more))

@@ -22,3 +22,4 @@ pub mod Fast
 pub mod Rest
 pub mod Places
 pub mod Dynamic
+pub mod Ahead

@@ -117,7 +117,7 @@ impl Decoder {
         ensures inside { StaysInside result }
         ensures advances { (more : List ℕ) → (self.old.input.is_at_end ≡ true → more ≡ []) → Advances self.old self.new Member more result }
         ensures fresh { IfOk result (λ step. step ≡ To ExtraLength → IsFresh self.new) }
-        ensures placed { IfOk result (λ step. IsPlaced self.new (phase_after Member step)) }
+        ensures placed { IsPlaced self.new (phase_after Member result) }
         ensures given { self.new.output.given ≡ self.old.output.given }
         ensures output { (self.new.output.bytes ≡ self.old.output.bytes) × (self.new.output.filled ≡ self.old.output.filled) }
         ensures end { self.new.input.is_at_end ≡ self.old.input.is_at_end }
@@ -157,7 +157,7 @@ impl Decoder {
         ensures after { ComesAfter self.old self.new result }
         ensures advances { (more : List ℕ) → bits_left self.old.input % 8 ≡ 0 → (self.old.input.is_at_end ≡ true → more ≡ []) → Advances self.old self.new BetweenMembers more result }
         ensures same { ReadsHeader self.old self.new }
-        ensures placed { bits_left self.old.input % 8 ≡ 0 → IfOk result (λ step. IsPlaced self.new (phase_after BetweenMembers step)) }
+        ensures placed { bits_left self.old.input % 8 ≡ 0 → IsPlaced self.new (phase_after BetweenMembers result) }
     {
         if !self.input.has(2) {
             return Ok(Step::Pause);
@@ -184,7 +184,7 @@ impl Decoder {
         ensures inside { StaysInside result }
         ensures advances { (more : List ℕ) → (self.old.input.is_at_end ≡ true → more ≡ []) → Advances self.old self.new ExtraLength more result }
         ensures same { ReadsHeader self.old self.new }
-        ensures placed { IsFresh self.old → IfOk result (λ step. IsPlaced self.new (phase_after ExtraLength step)) }
+        ensures placed { IsFresh self.old → IsPlaced self.new (phase_after ExtraLength result) }
     {
         if self.flags & FEXTRA == 0 {
             return Ok(Step::To(Phase::Name));
@@ -206,7 +206,7 @@ impl Decoder {
         ensures inside { StaysInside result }
         ensures advances { (more : List ℕ) → (self.old.input.is_at_end ≡ true → more ≡ []) → Advances self.old self.new (Extra left) more result }
         ensures same { ReadsHeader self.old self.new }
-        ensures placed { IsFresh self.old → IfOk result (λ step. IsPlaced self.new (phase_after (Extra left) step)) }
+        ensures placed { IsFresh self.old → IsPlaced self.new (phase_after (Extra left) result) }
     {
         if left == 0 {
             return Ok(Step::To(Phase::Name));
@@ -225,7 +225,7 @@ impl Decoder {
         ensures inside { StaysInside result }
         ensures advances { (more : List ℕ) → (self.old.input.is_at_end ≡ true → more ≡ []) → Advances self.old self.new Name more result }
         ensures same { ReadsHeader self.old self.new }
-        ensures placed { IsFresh self.old → IfOk result (λ step. IsPlaced self.new (phase_after Name step)) }
+        ensures placed { IsFresh self.old → IsPlaced self.new (phase_after Name result) }
     {
         if self.flags & FNAME == 0 {
             return Ok(Step::To(Phase::Comment));
@@ -245,7 +245,7 @@ impl Decoder {
         ensures inside { StaysInside result }
         ensures advances { (more : List ℕ) → (self.old.input.is_at_end ≡ true → more ≡ []) → Advances self.old self.new Comment more result }
         ensures same { ReadsHeader self.old self.new }
-        ensures placed { IsFresh self.old → IfOk result (λ step. IsPlaced self.new (phase_after Comment step)) }
+        ensures placed { IsFresh self.old → IsPlaced self.new (phase_after Comment result) }
     {
         if self.flags & FCOMMENT == 0 {
             return Ok(Step::To(Phase::HeaderCheck));
@@ -265,7 +265,7 @@ impl Decoder {
         ensures inside { StaysInside result }
         ensures advances { (more : List ℕ) → IsFresh self.old → (self.old.input.is_at_end ≡ true → more ≡ []) → Advances self.old self.new HeaderCheck more result }
         ensures same { ReadsHeader self.old self.new }
-        ensures placed { IsFresh self.old → IfOk result (λ step. IsPlaced self.new (phase_after HeaderCheck step)) }
+        ensures placed { IsFresh self.old → IsPlaced self.new (phase_after HeaderCheck result) }
     {
         if self.flags & FHCRC == 0 {
             return Ok(Step::To(Phase::BlockHeader));

@@ -27,7 +27,7 @@ impl Decoder {
         ensures aligned { IfOk result (λ step. step ≡ To BetweenMembers → bits_left self.new.input % 8 ≡ 0) }
         ensures same { IsSameBlock self.old self.new }
         ensures output { self.new.output ≡ self.old.output }
-        ensures placed { IfOk result (λ step. IsPlaced self.new (phase_after Trailer step)) }
+        ensures placed { IsPlaced self.new (phase_after Trailer result) }
     {
         is_word(self.count);
         if !self.input.has(TRAILER) {
