@@ -30,3 +30,4 @@ pub mod BlockStartLaws
 pub mod BehindLaws
 pub mod SlideLaws
 pub mod AheadLaws
+pub mod GivesLaws

@@ -23,3 +23,4 @@ pub mod Rest
 pub mod Places
 pub mod Dynamic
 pub mod Ahead
+pub mod Gives

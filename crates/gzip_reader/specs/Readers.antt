@@ -1,5 +1,6 @@
 -- How a reader of gzip files ends.
 use Rattle.std.specs.Prelude.{◌≡◌, ℕ, true, false, List, Option, None}
+use Rattle.gzip_reader.specs.Ahead.{IsBeginning}
 use Rattle.gzip_reader.specs.Bits.{waiting}
 use Rattle.gzip_reader.specs.Members.{TrailerAgrees, owes_trailer}
 use Rattle.gzip_reader.specs.Ends.{is_end, is_failure}
@@ -24,6 +25,8 @@ pub record IsNew {R : Type 0} (g : Gunzip R) (from : R) (head : List ℕ) : Type
   pub fault : g.fault ≡ None
   pub begun : g.is_over ≡ false
   pub failures : g.failures ≡ 0
+  pub working : g.is_broken ≡ false
+  pub begins : IsBeginning g.inflater
 
 -- it told its end: that of the file after a member, or a fault that ends the data
 pub record HasEnded {R : Type 0} (g : Gunzip R) : Type 0 where

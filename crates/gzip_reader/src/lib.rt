@@ -17,12 +17,10 @@
 //! reached, or didn't agree, isn't checked and may be wrong. A file that was cut between two members can't be told
 //! from a whole one.
 //!
-//! What a file unpacks to is `unpacked` in specs/Files.antt, in the words of the RFCs. What stands to come is still
-//! unknown to the contracts (`remaining` is `None`). They say that what is to come of a file, in each phase but at the
-//! header of a block, is what a step of the decoder gives of it, and then what is to come after the step; that reading
-//! from the device loses no bit; how a reader ends; that its checksums are the CRC-32 of the decoded bytes bit by bit;
-//! and that no member is left but by a trailer that agrees with it. That the headers of blocks, with the codes that
-//! they make, join them as the definitions do is tested only.
+//! What a file unpacks to is `unpacked` in specs/Files.antt, in the words of the RFCs. What a `Gunzip` still gives
+//! (`remaining`) is known where its device's bytes are: they are exactly the bytes that the file unpacks to
+//! (`Gunzip::gives_what_it_unpacks`), up to the flaw that it ends by, which is the fault that is told
+//! (`Gunzip::ends_as_it_unpacks`), unless the device fails.
 #![tactic(auto)]
 
 mod alphabet;
