@@ -9,3 +9,5 @@ mod devices;
 mod files;
 #[cfg(test)]
 mod reading;
+#[cfg(test)]
+mod unpacking;
