@@ -31,8 +31,11 @@ const END_MAGIC: u64 = 0x1772_4538_5090;
 /// selectors of 6 bits, and 6 tables of 258 lengths that take 40 steps of 2 bits at most.
 const MARGIN: usize = 2_300_000;
 
-/// How many further bytes are held for each thread.
+/// How many further bytes are read for each thread, and as long as there are how many none are read. With fewer a thread
+/// may have less than four blocks to decode; the more there are, the more often those that are held are moved.
 const EACH: usize = 1_200_000;
+
+const ENOUGH: usize = 900_000;
 
 /// Makes this many jobs. Those that are more are dropped with their memory.
 fn fill_jobs(alloc: Global, jobs: &mut Vec<Job>, count: usize) -> Result<(), AllocError> {
@@ -131,7 +134,9 @@ impl<D: Source> Streams<D> {
         ensures sound { has_failed self.new.window.rest ≡ false → (has_failed self.old.window.rest ≡ false)
             × (D.failure_count self.new.device ≡ D.failure_count self.old.device) }
     {
-        if self.window.is_last() || self.window.bytes().len() - self.at / 8 >= MARGIN {
+        if self.window.is_last()
+            || self.window.bytes().len() - self.at / 8 >= MARGIN + jobs * ENOUGH
+        {
             return Ok(());
         }
         self.hold(MARGIN + jobs * EACH)
