@@ -31,8 +31,8 @@ const END_MAGIC: u64 = 0x1772_4538_5090;
 /// selectors of 6 bits, and 6 tables of 258 lengths that take 40 steps of 2 bits at most.
 const MARGIN: usize = 2_300_000;
 
-/// How many further bytes are read for each thread, and as long as there are how many none are read. With fewer a thread
-/// may have less than four blocks to decode; the more there are, the more often those that are held are moved.
+/// How many further bytes are read for each thread, and as long as there are how many none are read. With fewer a
+/// thread may have less than four blocks to decode; the more there are, the more often those that are held are moved.
 const EACH: usize = 1_200_000;
 
 const ENOUGH: usize = 900_000;
