@@ -11,7 +11,14 @@ use Rattle.run_io.specs.Readers.{blocks_remaining}
 use Rattle.run_io.specs.declared.blocks.Blocks.{Blocks}
 use Rattle.packed_io.specs.Devices.{first_remaining}
 use Rattle.packed_io.specs.Reading.{unpacked_remaining}
-use Rattle.packed_io.specs.Stages.{is_told, stage_remaining}
+use Rattle.gzip_reader.specs.Files as gzip
+use Rattle.gzip_reader.specs.Blocks
+use Rattle.gzip_reader.specs.Gives.{left, left_known}
+use Rattle.gzip_reader.specs.declared.gunzip.Gunzip.{Gunzip}
+use Rattle.std.specs.Global.{Box}
+use Rattle.std.specs.Prelude.{box_value}
+use Rattle.packed_io.specs.declared.decoder.Decoder.{Decoder}
+use Rattle.packed_io.specs.Stages.{IsMade, decoder_remaining, is_told, stage_remaining}
 use Rattle.packed_io.specs.declared.head.HeadFirst.{HeadFirst}
 use Rattle.packed_io.specs.declared.unpacked.Stage.TheVariants as stages
 use Rattle.packed_io.specs.declared.unpacked.Unpacked.{Unpacked}
@@ -73,14 +80,29 @@ opens_plain head known now form h w e p n =
     let told = told_as head known form h w e ∙ ap (λ f. told_in f (prepend_known head known)) p in
     subst (λ (x : Option (List ℕ)). Keeps x now) (sym told) (subst (λ (x : Option (List ℕ)). Keeps (prepend_known head known) x) (sym n) (Keeps-refl (prepend_known head known)))
 
-packed_none : (form : Format) (known : Option (List ℕ)) → (form ≡ Gzip) ⊎ (form ≡ Bzip2) → told_in form known ≡ None
-packed_none form known (inl e) = ap (λ f. told_in f known) e
-packed_none form known (inr e) = ap (λ f. told_in f known) e
+-- so does what unpacks one that is packed
+pub opens_packed : (head : List ℕ) (known now : Option (List ℕ)) (form : Format) → length head ≤ 10 → (length head ≡ 10) ⊎ IsAtEnd known → form ≡ format_of head → Keeps (told_in form (prepend_known head known)) now → Keeps (told_of (prepend_known head known)) now
+opens_packed head known now form h w e kept = subst (λ (x : Option (List ℕ)). Keeps x now) (sym (told_as head known form h w e)) kept
 
--- of a packed one nothing is told
-pub opens_packed : (head : List ℕ) (known : Option (List ℕ)) (form : Format) → length head ≤ 10 → (length head ≡ 10) ⊎ IsAtEnd known → form ≡ format_of head → (form ≡ Gzip) ⊎ (form ≡ Bzip2) → Keeps (told_of (prepend_known head known)) None
-opens_packed head known form h w e p =
-    subst (λ (x : Option (List ℕ)). Keeps x None) (sym (told_as head known form h w e ∙ packed_none form (prepend_known head known) p)) tt
+pub made_keeps : {D : Type 0} (remaining : D → Option (List ℕ)) (form : Format) (known : Option (List ℕ)) (decoder : Decoder D) → (form ≡ Gzip) ⊎ (form ≡ Bzip2) → IsMade remaining form known decoder → Keeps (told_in form known) (decoder_remaining remaining decoder)
+made_keeps remaining Gzip known decoder packed made = made
+made_keeps remaining Bzip2 known decoder packed made = made
+made_keeps remaining Plain known decoder (inl e) made = absurd cc
+made_keeps remaining Plain known decoder (inr e) made = absurd cc
+
+-- what unpacks a gzip file tells what it unpacks to
+pub gzip_keeps : {S : Type 0} (gunzip : Gunzip S) (head : List ℕ) (known : Option (List ℕ)) → ((bytes : List ℕ) → left gunzip bytes ≡ gzip.unpacked (head ++ bytes)) → Keeps (told_in Gzip (prepend_known head known)) (left_known gunzip known)
+gzip_keeps gunzip head None h = tt
+gzip_keeps gunzip head (Some bytes) h = ap (λ (u : Blocks.Unpacked). u.bytes) (h bytes)
+
+-- a read of what unpacks a file is one of the file
+pub packed_consumes : {D : Type 0} (remaining : D → Option (List ℕ)) (u : Unpacked D) (form : Format) (decoder : Box (Decoder D)) (new : Decoder D) (bytes : List ℕ) → u.stage ≡ stages.Packed form decoder
+    → Consumes (decoder_remaining remaining (box_value decoder)) (decoder_remaining remaining new) bytes → Consumes (unpacked_remaining remaining u) (decoder_remaining remaining new) bytes
+packed_consumes remaining u form decoder new bytes is h = subst (λ (x : Option (List ℕ)). Consumes x (decoder_remaining remaining new) bytes) (sym (ap (stage_remaining remaining) is)) h
+
+pub packed_keeps : {D : Type 0} (remaining : D → Option (List ℕ)) (u : Unpacked D) (form : Format) (decoder : Box (Decoder D)) (new : Decoder D) → u.stage ≡ stages.Packed form decoder
+    → Keeps (decoder_remaining remaining (box_value decoder)) (decoder_remaining remaining new) → Keeps (unpacked_remaining remaining u) (decoder_remaining remaining new)
+packed_keeps remaining u form decoder new is h = subst (λ (x : Option (List ℕ)). Keeps x (decoder_remaining remaining new)) (sym (ap (stage_remaining remaining) is)) h
 
 -- some of the first bytes were given: which these are
 pub split_front : (all rest taken : List ℕ) (given count : ℕ) → rest ≡ drop given all → taken ≡ take count rest → drop given all ≡ taken ++ drop (given + count) all

@@ -1,10 +1,17 @@
 -- How far a file was read.
-use Rattle.std.specs.Prelude.{◌≡◌, ◌<◌, ◌≤◌, ◌⊎◌, ⊤, ℕ, Bool, true, not, List, [], Option, Some, None, length}
-use Rattle.std.specs.Io.KnownBytes.{IsAtEnd, Keeps, prepend_known}
+use Rattle.std.specs.Prelude.{◌≡◌, ◌<◌, ◌≤◌, ◌⊎◌, ⊤, ℕ, Bool, true, not, List, [], Option, Some, None, length, take, box_value}
+use Rattle.std.specs.Io.KnownBytes.{Consumes, IsAtEnd, Keeps, prepend_known}
+use Rattle.mrt_frame.specs.Devices.{counted_device}
+use Rattle.gzip_reader.specs.Gives.{left_known}
+use Rattle.gzip_reader.specs.Readers.{gunzip_source}
+use Rattle.bzip2_reader.specs.Coming.{given_of}
+use Rattle.bzip2_reader.specs.Reading.{device_of, to_come}
+use Rattle.packed_io.specs.declared.decoder.Decoder.{Decoder}
+use Rattle.packed_io.specs.declared.decoder.Decoder.TheVariants.{Empty, Gzip, Bzip2}
 use Rattle.run_io.specs.Readers.{blocks_remaining}
 use Rattle.packed_io.specs.Devices.{first_remaining, head_bytes, place_remaining}
 use Rattle.packed_io.specs.Faults.{EndsTheData, FailsReading, ends_by, format_of_fault}
-use Rattle.packed_io.specs.Formats.{told_of}
+use Rattle.packed_io.specs.Formats.{told_in, told_of}
 use Rattle.packed_io.specs.declared.decoder.Outcome.{Outcome}
 use Rattle.packed_io.specs.declared.decoder.Outcome.TheVariants as outcome
 use Rattle.packed_io.specs.declared.fault.PackedFault.{PackedFault}
@@ -28,12 +35,30 @@ known_bytes remaining w = prepend_known (head_bytes w.head) (place_remaining rem
 abbrev pub IsWhole : {D : Type 0} → (D → Option (List ℕ)) → waiting.Waiting D → Type 0
 IsWhole remaining w = (length (head_bytes w.head) ≡ 10) ⊎ IsAtEnd (place_remaining remaining w.place)
 
+-- the bytes that what unpacks a file will give, where those of its device are known
+abbrev pub decoder_remaining : {D : Type 0} → (D → Option (List ℕ)) → Decoder D → Option (List ℕ)
+decoder_remaining remaining Empty = Some []
+decoder_remaining remaining (Gzip gunzip) = left_known gunzip (place_remaining remaining (counted_device (gunzip_source gunzip)))
+decoder_remaining remaining (Bzip2 bunzip) =
+    given_of (to_come (place_remaining remaining (counted_device (device_of bunzip))) bunzip)
+
+-- it was made for a file in this form, of whose known bytes it tells the same
+abbrev pub IsMade : {D : Type 0} → (D → Option (List ℕ)) → Format → Option (List ℕ) → Decoder D → Type 0
+IsMade remaining format.Plain known decoder = ⊤
+IsMade remaining form known decoder = Keeps (told_in form known) (decoder_remaining remaining decoder)
+
+-- what a read of a packed file did to the known bytes
+abbrev pub OutcomeConsumes : Option (List ℕ) → Option (List ℕ) → Outcome → List ℕ → Type 0
+OutcomeConsumes old new (outcome.Gave n) buffer = Consumes old new (take n buffer)
+OutcomeConsumes old new (outcome.Ended fault) buffer = IsAtEnd old
+OutcomeConsumes old new (outcome.Failed fault error) buffer = Keeps old new
+
 abbrev pub stage_remaining : {D : Type 0} → (D → Option (List ℕ)) → Stage D → Option (List ℕ)
 stage_remaining remaining (Waiting w) = told_of (known_bytes remaining w)
 stage_remaining remaining (Plain blocks) = blocks_remaining (first_remaining remaining) blocks
-stage_remaining remaining (Packed form decoder) = None
+stage_remaining remaining (Packed form decoder) = decoder_remaining remaining (box_value decoder)
 stage_remaining remaining (Ended form fault) = Some []
-stage_remaining remaining (Failed fault error) = None
+stage_remaining remaining (Failed fault error decoder) = decoder_remaining remaining (box_value decoder)
 
 abbrev pub StageWaits : {D : Type 0} → Stage D → Type 0
 StageWaits (Waiting w) = ⊤
@@ -48,18 +73,23 @@ StagePacked (Waiting w) = ⊥
 StagePacked (Plain blocks) = ⊥
 StagePacked other = ⊤
 
+-- it is being unpacked
+abbrev pub StageUnpacks : {D : Type 0} → Stage D → Type 0
+StageUnpacks (Packed form decoder) = ⊤
+StageUnpacks other = ⊥
+
 abbrev pub StageEnded : {D : Type 0} → Stage D → Type 0
 StageEnded (Ended form fault) = EndsTheData fault
 StageEnded other = ⊥
 
 abbrev pub StageFailed : {D : Type 0} → Stage D → Type 0
-StageFailed (Failed fault error) = FailsReading (Some fault)
+StageFailed (Failed fault error decoder) = FailsReading (Some fault)
 StageFailed other = ⊥
 
 -- whether the fault agrees with how it ended
 abbrev pub is_told : {D : Type 0} → Stage D → Bool
 is_told (Ended form fault) = ends_by fault
-is_told (Failed fault error) = not (ends_by (Some fault))
+is_told (Failed fault error decoder) = not (ends_by (Some fault))
 is_told other = true
 
 -- what begins to give the file's bytes tells the same of them
@@ -71,9 +101,9 @@ stage_format (Waiting w) = None
 stage_format (Plain blocks) = Some format.Plain
 stage_format (Packed form decoder) = Some form
 stage_format (Ended form fault) = Some form
-stage_format (Failed fault error) = Some (format_of_fault fault)
+stage_format (Failed fault error decoder) = Some (format_of_fault fault)
 
 abbrev pub stage_fault : {D : Type 0} → Stage D → Option PackedFault
 stage_fault (Ended form fault) = fault
-stage_fault (Failed fault error) = Some fault
+stage_fault (Failed fault error decoder) = Some fault
 stage_fault other = None

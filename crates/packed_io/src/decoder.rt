@@ -1,7 +1,14 @@
 //! What unpacks a file.
 
-ghost use Rattle.std.specs.Prelude.{◌≡◌, OnErr};
-ghost use Rattle.packed_io.specs.Stages.{IsOutcome};
+ghost use Rattle.std.specs.Prelude.{◌≡◌, IfOk, OnErr, box_value};
+ghost use Rattle.std.specs.Io.KnownBytes.{prepend_known};
+ghost use Rattle.mrt_frame.specs.Devices.{counted_device};
+ghost use Rattle.gzip_reader.specs.Gives.{left_known};
+ghost use Rattle.gzip_reader.specs.Readers.{gunzip_source};
+ghost use Rattle.bzip2_reader.specs.Coming.{given_of};
+ghost use Rattle.bzip2_reader.specs.Reading.{device_of, to_come};
+ghost use Rattle.packed_io.specs.Devices.{head_bytes, place_remaining};
+ghost use Rattle.packed_io.specs.Stages.{IsMade, IsOutcome, OutcomeConsumes, decoder_remaining};
 
 use crate::fault::{PackedCause, PackedFault};
 use crate::format::Format;
@@ -64,9 +71,14 @@ fn error_of(fault: PackedFault, device: Option<io::Error>) -> io::Error {
 }
 
 fn read_gzip<D: Read>(gunzip: &mut Gunzip<Counted<Place<D>>>, buf: &mut [u8]) -> Outcome
-    ensures { IsOutcome result buf.new }
+    ensures outcome { IsOutcome result buf.new }
+    ensures bytes { OutcomeConsumes (left_known gunzip.old (place_remaining D.remaining (counted_device (gunzip_source gunzip.old))))
+        (left_known gunzip.new (place_remaining D.remaining (counted_device (gunzip_source gunzip.new)))) result buf.new }
 {
-    match gunzip.read_some(buf) {
+    gunzip.source().gives_its_bytes();
+    let read = gunzip.read_some(buf);
+    gunzip.source().gives_its_bytes();
+    match read {
         Ok(0) if !buf.is_empty() => Outcome::Ended(gunzip.fault().map(gzip_fault)),
         Ok(count) => Outcome::Gave(count),
         Err(_) => match gunzip.fault() {
@@ -85,9 +97,14 @@ fn read_bzip2<D: Read, T: Team>(
     buf: &mut [u8],
 ) -> Outcome
     requires { T.is_ready team.now }
-    ensures { IsOutcome result buf.new }
+    ensures outcome { IsOutcome result buf.new }
+    ensures bytes { OutcomeConsumes (given_of (to_come (place_remaining D.remaining (counted_device (device_of bunzip.old))) bunzip.old))
+        (given_of (to_come (place_remaining D.remaining (counted_device (device_of bunzip.new))) bunzip.new)) result buf.new }
 {
-    match bunzip.read_by(team, buf) {
+    bunzip.device().gives_its_bytes();
+    let read = bunzip.read_by(team, buf);
+    bunzip.device().gives_its_bytes();
+    match read {
         Ok(0) if !buf.is_empty() => Outcome::Ended(bunzip.damage().map(bzip2_fault)),
         Ok(count) => Outcome::Gave(count),
         Err(_) => match bunzip.damage() {
@@ -109,21 +126,42 @@ impl<D: Read + Drop> Decoder<D> {
         head: &Head,
         place: &mut Place<D>,
     ) -> Result<Box<Decoder<D>>, AllocError>
+        ensures made { IfOk result (λ made. IsMade D.remaining format
+            (prepend_known (head_bytes head.now) (place_remaining D.remaining place.old)) (box_value made)) }
         ensures kept { OnErr result (place.new ≡ place.old) }
     {
         let mut made = Box::new(alloc, Decoder::Empty)?;
+        *made = Decoder::over(alloc, format, head, place)?;
+        Ok(made)
+    }
+
+    /// The same, but for its box.
+    fn over(
+        alloc: Global,
+        format: Format,
+        head: &Head,
+        place: &mut Place<D>,
+    ) -> Result<Decoder<D>, AllocError>
+        ensures made { IfOk result (IsMade D.remaining format
+            (prepend_known (head_bytes head.now) (place_remaining D.remaining place.old))) }
+        ensures kept { OnErr result (place.new ≡ place.old) }
+    {
         match format {
-            Format::Plain => {}
+            Format::Plain => Ok(Decoder::Empty),
             Format::Gzip => {
                 let gunzip = Gunzip::with_head(alloc, head.as_slice(), ())?;
-                *made = Decoder::Gzip(gunzip.over(Counted::new(place.take_out())));
+                let gunzip = gunzip.over(Counted::new(place.take_out()));
+                gunzip.gives_what_it_unpacks();
+                gunzip.source().gives_its_bytes();
+                Ok(Decoder::Gzip(gunzip))
             }
             Format::Bzip2 => {
                 let front = Vec::from_slice(alloc, head.as_slice())?;
-                *made = Decoder::Bzip2(Bunzip::with_front(front, Counted::new(place.take_out())));
+                let bunzip = Bunzip::with_front(front, Counted::new(place.take_out()));
+                bunzip.device().gives_its_bytes();
+                Ok(Decoder::Bzip2(bunzip))
             }
         }
-        Ok(made)
     }
 }
 
@@ -140,7 +178,9 @@ impl<D: Read> Decoder<D> {
     /// Reads some bytes. The team decodes blocks of bzip2.
     pub(crate) fn read_by<T: Team>(&mut self, team: &T, buf: &mut [u8]) -> Outcome
         requires { T.is_ready team.now }
-        ensures { IsOutcome result buf.new }
+        ensures outcome { IsOutcome result buf.new }
+        ensures bytes { OutcomeConsumes (decoder_remaining D.remaining self.old) (decoder_remaining D.remaining self.new)
+            result buf.new }
     {
         match self {
             Decoder::Empty => Outcome::Ended(None),
@@ -148,4 +188,19 @@ impl<D: Read> Decoder<D> {
             Decoder::Bzip2(bunzip) => read_bzip2(bunzip, team, buf),
         }
     }
+}
+
+/// The same of one in its box, and how many bytes were then read of the device.
+pub(crate) fn read_boxed<D: Read, T: Team>(
+    decoder: &mut Box<Decoder<D>>,
+    team: &T,
+    buf: &mut [u8],
+) -> (Outcome, u64)
+    requires { T.is_ready team.now }
+    ensures outcome { IsOutcome result.0 buf.new }
+    ensures bytes { OutcomeConsumes (decoder_remaining D.remaining (box_value decoder.old))
+        (decoder_remaining D.remaining (box_value decoder.new)) result.0 buf.new }
+{
+    let outcome = decoder.read_by(team, buf);
+    (outcome, decoder.bytes_read())
 }

@@ -3,8 +3,8 @@
 //!
 //! The ten bytes are read in as many reads as the device takes, and what was read before a failure stays. Then there
 //! is memory for a block of 64 KiB, or for what unpacks the file, until its end. It is allocated before the device is
-//! moved there, so that a read that finds no memory may be tried again. The device is dropped at its end, and once a
-//! packed file can't be read on: whoever writes into a pipe is then told that nobody reads.
+//! moved there, so that a read that finds no memory may be tried again. The device is dropped at its end: whoever writes
+//! into a pipe behind that of a packed file is then told that nobody reads.
 //!
 //! `Unpacked::fault` tells what is wrong with a packed file, once its end or a failure was returned: where it is, its
 //! cause in words, and its effect. A fault that ends the data comes with `Ok(0)`, after all that was unpacked before;

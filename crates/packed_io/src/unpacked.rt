@@ -1,13 +1,13 @@
 //! A reader of files that may be packed.
 
-ghost use Rattle.std.specs.Prelude.{◌≡◌, ◌<◌, ◌≤◌, length, take, true, IfOk, IsErr, IsOk, OnErr, OnOk};
+ghost use Rattle.std.specs.Prelude.{◌≡◌, ◌<◌, ◌≤◌, Some, length, take, true, IfOk, IsErr, IsOk, OnErr, OnOk};
 ghost use Rattle.std.specs.Io.{ReadsAtMost};
 ghost use Rattle.std.specs.Io.KnownBytes.{Consumes, Keeps, ReadConsumes};
 ghost use Rattle.packed_io.specs.Formats.{told_of};
 ghost use Rattle.packed_io.specs.Faults.{EndsTheData, FailsReading};
-ghost use Rattle.packed_io.specs.Stages.{IsWhole, Opens, is_told, known_bytes};
+ghost use Rattle.packed_io.specs.Stages.{IsWhole, Opens, StageUnpacks, is_told, known_bytes};
 
-use crate::decoder::{Decoder, Outcome};
+use crate::decoder::{Decoder, Outcome, read_boxed};
 use crate::fault::PackedFault;
 use crate::format::{Format, format_of};
 use crate::head::{Head, HeadFirst, TELLING};
@@ -16,6 +16,7 @@ use bzip2_reader::{Alone, Team};
 use run_io::Blocks;
 use std::alloc::Global;
 use std::io::{self, Read};
+use std::mem;
 
 /// A file of which only first bytes were read.
 #[derive(Drop)]
@@ -55,8 +56,8 @@ enum Stage<D> {
     Packed(Format, Box<Decoder<D>>),
     /// A packed file was read to its end.
     Ended(Format, Option<PackedFault>),
-    /// A packed file can't be read on.
-    Failed(PackedFault, io::Error),
+    /// A packed file can't be read on. What is known of its bytes is known still.
+    Failed(PackedFault, io::Error, Box<Decoder<D>>),
 }
 
 impl<D: Read> Waiting<D> {
@@ -88,7 +89,7 @@ impl<D: Read> Waiting<D> {
 
 /// A reader of a file that may be packed. Its first ten bytes tell whether it is one of gzip or of bzip2, whose data is
 /// then given unpacked; any other file is given as it is, in blocks of 64 KiB. Memory for it exists only while it is
-/// read. The device is dropped at its end, and once a packed file can't be read on.
+/// read, and so long its device is kept.
 #[derive(Drop)]
 pub struct Unpacked<D> {
     alloc: Global,
@@ -122,7 +123,7 @@ impl<D: Read> Unpacked<D> {
             Stage::Waiting(_) => None,
             Stage::Plain(_) => Some(Format::Plain),
             Stage::Packed(format, _) | Stage::Ended(format, _) => Some(*format),
-            Stage::Failed(fault, _) => Some(fault.format()),
+            Stage::Failed(fault, _, _) => Some(fault.format()),
         }
     }
 
@@ -143,7 +144,7 @@ impl<D: Read> Unpacked<D> {
     {
         match &self.stage {
             Stage::Ended(_, fault) => *fault,
-            Stage::Failed(fault, _) => Some(*fault),
+            Stage::Failed(fault, _, _) => Some(*fault),
             _ => None,
         }
     }
@@ -165,6 +166,22 @@ impl<D: Read> Unpacked<D> {
         Ok(())
     }
 
+    /// Ends the reading of a packed file that failed by this fault, and keeps what unpacks it.
+    fn fail(&mut self, fault: PackedFault, error: io::Error)
+    where
+        D: Drop,
+        requires unpacks { StageUnpacks self.old.stage }
+        requires fails { FailsReading (Some fault) }
+        ensures failed { HasFailed self.new }
+        ensures same { unpacked_remaining D.remaining self.new ≡ unpacked_remaining D.remaining self.old }
+    {
+        let stage = mem::replace(&mut self.stage, Stage::Ended(fault.format(), None));
+        self.stage = match stage {
+            Stage::Packed(_, decoder) => Stage::Failed(fault, error, decoder),
+            other => other,
+        };
+    }
+
     /// Reads some bytes of a packed file.
     #[inline(never)]
     fn read_packed<T: Team>(&mut self, team: &T, buf: &mut [u8]) -> io::Result<usize>
@@ -184,8 +201,8 @@ impl<D: Read> Unpacked<D> {
             Stage::Waiting(_) | Stage::Plain(_) => unreachable!(),
             Stage::Packed(format, decoder) => {
                 let format = *format;
-                let outcome = decoder.read_by(team, buf);
-                self.bytes = decoder.bytes_read();
+                let (outcome, bytes) = read_boxed(decoder, team, buf);
+                self.bytes = bytes;
                 match outcome {
                     Outcome::Gave(count) => Ok(count),
                     Outcome::Ended(fault) => {
@@ -193,13 +210,13 @@ impl<D: Read> Unpacked<D> {
                         Ok(0)
                     }
                     Outcome::Failed(fault, error) => {
-                        self.stage = Stage::Failed(fault, error);
+                        self.fail(fault, error);
                         Err(error)
                     }
                 }
             }
             Stage::Ended(_, _) => Ok(0),
-            Stage::Failed(_, error) => Err(*error),
+            Stage::Failed(_, error, _) => Err(*error),
         }
     }
 }
@@ -265,7 +282,8 @@ impl<D: Read + Drop> Read for Unpacked<D> {
 impl<D: Read + Drop> Unpacked<D> {
     ghost use Rattle.packed_io.specs.Reading.{unpacked_remaining};
 
-    /// What is known of the bytes to come: all of a file that is read as it is, and nothing of one that is packed.
+    /// What is known of the bytes to come: all of a file that is read as it is, and what the bytes of a packed one unpack
+    /// to.
     pub fn gives_its_bytes(&self)
         ensures { ⟦<Unpacked<D> as Read>⟧.remaining self.now ≡ unpacked_remaining D.remaining self.now }
     {}

@@ -1,8 +1,8 @@
-use Rattle.std.proofs.Common.{◌≤◌, length, refl, ap, ◌∙◌, subst}
+use Rattle.std.proofs.Common.{◌≡◌, ◌≤◌, length, refl, ap, ◌∙◌, subst}
 use Rattle.packed_io.specs.Devices.{head_bytes, place_remaining}
 use Rattle.std.specs.Io.KnownBytes.{prepend_known}
 use Rattle.packed_io.specs.Formats.{format_of}
-use Rattle.packed_io.proofs.HeadLaws.{opens_packed, opens_plain}
+use Rattle.packed_io.proofs.HeadLaws.{made_keeps, opens_packed, opens_plain}
 use Rattle.packed_io.proofs.unpacked.Waiting.open.Goals as goal
 
 pub returns-in-Plain-clause-opened : goal.returns-in-Plain-clause-opened
@@ -18,4 +18,4 @@ returns-in_ok-decoder-in-Gzip g c =
     let head = head_bytes c.args.self.now.head in
     let size = subst (λ l. length l ≤ 10) c.as_slice.ensures.bytes c.as_slice.ensures.size in
     let form = c.format_of-format.ensures ∙ ap format_of c.as_slice.ensures.bytes in
-    record { opened = (tt, refl, opens_packed head _ _ size c.requires form c.in-Gzip.is); kept = tt }
+    record { opened = (tt, refl, opens_packed head _ _ _ size c.requires form (made_keeps g.D.Read.remaining _ _ _ c.in-Gzip.is c.in_ok-decoder-in-Gzip.ensures.made)); kept = tt }
