@@ -10,11 +10,10 @@ use Rattle.gzip_reader.specs.Files.{data_of, fixed_byte, flagged_fields, flags_a
 use Rattle.gzip_reader.specs.Places.{TakesField, TakesMethod, place_of, to_come}
 use Rattle.gzip_reader.specs.Steps.{decoded}
 use Rattle.gzip_reader.specs.Rest.{Place, and_others, data_behind, rest_of}
-use Rattle.gzip_reader.specs.declared.bit_reader.BitReader.{BitReader}
 use Rattle.gzip_reader.specs.declared.decoder.Decoder.{Decoder}
 use Rattle.gzip_reader.specs.declared.decoder.Phase.TheVariants.{ExtraLength, Member}
 use Rattle.gzip_reader.specs.declared.fault.Flaw.{Flaw}
-use Rattle.gzip_reader.specs.declared.fault.Flaw.TheVariants.{Flags, Magic, Method, Truncated}
+use Rattle.gzip_reader.specs.declared.fault.Flaw.TheVariants.{Flags, Magic, Method}
 use Rattle.gzip_reader.specs.declared.output.Output.{Output}
 use Rattle.gzip_reader.proofs.PlaceLaws.{none_decoded}
 
@@ -139,11 +138,6 @@ some_reserved flags small other e =
     other (eqb-true (bit_and flags 224) 0 (agree_below_at (λ n. eqb (bit_and n 224) 0) (λ n. eqb (n / 32) 0) 256 flags refl small ∙ eq-eqb (flags / 32) 0 e))
 
 -- ---- a decoder's steps
-
-pub byte_short : (input : BitReader) (more : List ℕ) (flaw : Flaw) → ◌≡◌ {A = Result ℕ Flaw} (Err flaw) (Err Truncated) → number_at 8 (held input ++ []) ≡ Err Truncated → more ≡ [] → number_at 8 (held input ++ more) ≡ Err flaw
-byte_short input more flaw is short last =
-    let e : flaw ≡ Truncated = cc in
-    ap (λ (l : List ℕ). number_at 8 (held input ++ l)) last ∙ short ∙ ap (λ (f : Flaw). Err f) (sym e)
 
 -- bytes that stay are none that were decoded
 pub kept_decoded : (old new : Output) → new.bytes ≡ old.bytes → new.filled ≡ old.filled → decoded old new ≡ []

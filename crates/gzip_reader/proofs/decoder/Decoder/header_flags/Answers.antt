@@ -3,13 +3,14 @@ use Rattle.gzip_reader.specs.Bits.{bits_left, held}
 use Rattle.gzip_reader.specs.Files.{skip_bytes}
 use Rattle.gzip_reader.specs.declared.decoder.Decoder.{Decoder}
 use Rattle.gzip_reader.proofs.HeaderLaws.{ends_here}
-use Rattle.gzip_reader.proofs.StartLaws.{byte_short, fields_come, no_flags, no_others, no_reserved, reserved_flags, some_reserved}
+use Rattle.gzip_reader.proofs.DynamicLaws.{number_short}
+use Rattle.gzip_reader.proofs.StartLaws.{fields_come, no_flags, no_others, no_reserved, reserved_flags, some_reserved}
 use Rattle.gzip_reader.proofs.decoder.Decoder.header_flags.Goals as goal
 
 pub returns-in-Err-clause-header : goal.returns-in-Err-clause-header
 returns-in-Err-clause-header c more none enough =
     no_flags c.args.self.now.header_register (held c.args.self.now.input ++ more) c.in-Err.flaw
-    (byte_short c.args.self.now.input more c.in-Err.flaw c.in-Err.ensures.short.0 c.in-Err.ensures.short.2
+    (number_short c.args.self.now.input 8 more c.in-Err.flaw c.in-Err.ensures.short.0 c.in-Err.ensures.short.2
     (ends_here c.args.self.now.input.is_at_end (bits_left c.args.self.now.input) 8 more none (λ e. omega (arith, enough e)) c.in-Err.ensures.short.1))
 
 pub returns-in-Ok-clause-header : goal.returns-in-Ok-clause-header

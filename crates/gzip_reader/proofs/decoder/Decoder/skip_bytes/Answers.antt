@@ -3,7 +3,8 @@ use Rattle.gzip_reader.specs.Bits.{bits_left, held}
 use Rattle.gzip_reader.specs.Files.{skip_bytes}
 use Rattle.gzip_reader.specs.declared.decoder.Decoder.{Decoder}
 use Rattle.gzip_reader.proofs.HeaderLaws.{ends_here, reads_twice}
-use Rattle.gzip_reader.proofs.StartLaws.{byte_short, skip_none, skip_one, skip_short}
+use Rattle.gzip_reader.proofs.DynamicLaws.{number_short}
+use Rattle.gzip_reader.proofs.StartLaws.{skip_none, skip_one, skip_short}
 use Rattle.gzip_reader.proofs.decoder.Decoder.skip_bytes.Goals as goal
 
 pub returns-in-Err-clause-field : goal.returns-in-Err-clause-field
@@ -14,7 +15,7 @@ returns-in-Err-clause-field c more none enough =
     c.loop-taken.invariant.field more
     ∙ ap (λ (n : ℕ). skip_bytes n now.header_register (held now.input ++ more)) one
     ∙ skip_short (c.args.count - c.loop-taken.taken - 1) now.header_register (held now.input ++ more) c.in-Err.flaw
-    (byte_short now.input more c.in-Err.flaw c.in-Err.ensures.short.0 c.in-Err.ensures.short.2
+    (number_short now.input 8 more c.in-Err.flaw c.in-Err.ensures.short.0 c.in-Err.ensures.short.2
     (ends_here now.input.is_at_end (bits_left now.input) 8 more (λ e. none (sym same ∙ e)) (λ e. omega (arith, enough (sym same ∙ e), c.loop-taken.invariant.left)) c.in-Err.ensures.short.1))
 
 pub loop-taken-preserved : goal.loop-taken-preserved
