@@ -25,5 +25,6 @@ pub mod StreamLaws
 pub mod SymbolReads
 pub mod TableLaws
 pub mod UsedLaws
+pub mod WalkLaws
 pub mod WindowLaws
 pub mod WordLaws

@@ -11,7 +11,6 @@ pub mod Files
 pub mod Fronts
 pub mod Heads
 pub mod Jobs
-pub mod Lanes
 pub mod Left
 pub mod Links
 pub mod Orders
@@ -26,5 +25,6 @@ pub mod Tables
 pub mod TextProps
 pub mod Texts
 pub mod Transform
+pub mod Walks
 pub mod Windows
 pub mod Words

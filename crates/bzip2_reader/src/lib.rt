@@ -34,10 +34,10 @@
 //!
 //! # Memory and threads
 //!
-//! A thread decodes four blocks at a time, since the way back through the transform waits for memory at each step. It
-//! needs 18 MB for them, of which a file of one block uses 4.5 MB; the window over the device is 2.3 MB and 1.2 MB for
-//! each thread; and one block's text is held, 0.9 MB at most. Runs are written out twice: once for the checksum, and
-//! once as the bytes are given, so that long ones take no memory. Which places are tried as blocks, and by whom,
+//! A thread decodes one block at a time. The way back through the transform waits for memory at each step, so a dozen
+//! parts of the block are walked side by side. It needs 5.6 MB for that; the window over the device is 2.3 MB and 1.2
+//! MB for each thread; and one block's text is held, 0.9 MB at most. Runs are written out twice: once for the checksum,
+//! and once as the bytes are given, so that long ones take no memory. Which places are tried as blocks, and by whom,
 //! doesn't matter: a block is used only where the one before it ends.
 #![tactic(auto)]
 
@@ -60,6 +60,7 @@ mod streams;
 mod symbols;
 mod table;
 mod transform;
+mod walks;
 mod window;
 
 pub use batch::{Alone, Beside, Job, Team};

@@ -14,7 +14,7 @@ ghost use Rattle.bzip2_reader.specs.Windows.{window_bytes};
 ghost use Rattle.bzip2_reader.specs.declared.fault.Cause.TheVariants.{Device, EarlyEnd, Memory};
 ghost use Rattle.bzip2_reader.specs.declared.window.Rest.TheVariants.{None as NoMore};
 
-use crate::batch::{Job, Team, decode_from, lane_of};
+use crate::batch::{Job, Team, decode_from};
 use crate::bits::Cursor;
 use crate::block::{Block, read_magic};
 use crate::checksum::Checksums;
@@ -31,8 +31,9 @@ const END_MAGIC: u64 = 0x1772_4538_5090;
 /// selectors of 6 bits, and 6 tables of 258 lengths that take 40 steps of 2 bits at most.
 const MARGIN: usize = 2_300_000;
 
-/// How many further bytes are read for each thread, and as long as there are how many none are read. With fewer a
-/// thread may have less than four blocks to decode; the more there are, the more often those that are held are moved.
+/// How many further bytes are read for each thread, and as long as there are how many none are read: no block has more.
+/// With fewer a thread may have no block to decode; the more are read at a time, the less often those that are held are
+/// moved.
 const EACH: usize = 1_200_000;
 
 const ENOUGH: usize = 900_000;
@@ -67,7 +68,7 @@ pub(crate) struct Streams<D> {
     stage: Stage,
     sums: Checksums,
     jobs: Vec<Job>,
-    /// How many lanes of the jobs have a block, and the first of them that wasn't taken.
+    /// How many of the jobs have a block, and the first of them that wasn't taken.
     dealt: usize,
     next: usize,
     pub(crate) block: Block,
@@ -268,10 +269,10 @@ impl<D: Source> Streams<D> {
         if self.next >= self.dealt {
             return Ok(false);
         }
-        let Some(lane) = lane_of(self.jobs.as_slice(), self.next) else {
+        let Some(job) = self.jobs.as_slice().get(self.next) else {
             return Ok(false);
         };
-        let text = match lane.text(self.at) {
+        let text = match job.text(self.at) {
             Some(Ok(text)) => text,
             Some(Err(fault)) => return Err(cause_of(fault)),
             None => return Ok(false),
@@ -280,7 +281,7 @@ impl<D: Source> Streams<D> {
             return Err(Cause::Block(BlockFault::LongBlock));
         }
         let before = std::mem::replace(&mut self.block, Block::new(self.alloc));
-        let raw = lane.raw(text.size);
+        let raw = job.raw(text.size);
         self.block = Block::take(raw, text.checksum, &self.sums, before.into_text())?;
         self.stage = Stage::Inside {
             most,
@@ -336,14 +337,14 @@ impl<D: Source> Streams<D> {
         }
     }
 
-    /// The number of the first lane that wasn't passed, or how many there are.
-    fn next_lane(&self) -> usize
+    /// The number of the first job that wasn't passed, or how many there are.
+    fn next_job(&self) -> usize
         ensures { self.now.next ≤ result }
     {
         let mut next = self.next;
         for _ in self.next..self.dealt.max(self.next) {
-            if let Some(lane) = lane_of(self.jobs.as_slice(), next)
-                && let Some(start) = lane.start()
+            if let Some(job) = self.jobs.as_slice().get(next)
+                && let Some(start) = job.start()
                 && start >= self.at
             {
                 return next;
@@ -363,7 +364,7 @@ impl<D: Source> Streams<D> {
         ensures sound { has_failed self.new.window.rest ≡ false → (has_failed self.old.window.rest ≡ false)
             × (D.failure_count self.new.device ≡ D.failure_count self.old.device) }
     {
-        self.next = self.next_lane();
+        self.next = self.next_job();
         if self.next < self.dealt {
             return Ok(());
         }

@@ -4,5 +4,5 @@ use Rattle.bzip2_reader.proofs.streams.Streams.prepare.Goals as goal
 pub invariant_of-self : goal.invariant_of-self
 invariant_of-self g c = record {
   within = c.args.self.now.within;
-  decoded = λ less. c.args.self.now.decoded (omega (arith, less, c.next_lane-self.ensures));
+  decoded = λ less. c.args.self.now.decoded (omega (arith, less, c.next_job-self.ensures));
 }

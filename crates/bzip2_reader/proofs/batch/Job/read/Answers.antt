@@ -2,7 +2,7 @@ use Rattle.std.proofs.Common.{◌∙◌, ap, length, subst, sym}
 use Rattle.bzip2_reader.specs.Fields.{bits_of}
 use Rattle.bzip2_reader.specs.Texts.{IsText}
 use Rattle.bzip2_reader.proofs.LaneLaws.{held, text_read, read_there}
-use Rattle.bzip2_reader.proofs.batch.Lane.read.Goals as goal
+use Rattle.bzip2_reader.proofs.batch.Job.read.Goals as goal
 
 pub returns-in-Some : goal.returns-in-Some
 returns-in-Some c =
