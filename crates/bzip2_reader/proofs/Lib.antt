@@ -19,7 +19,6 @@ pub mod RowLaws
 pub mod RunLaws
 pub mod SelectorLaws
 pub mod SizeLaws
-pub mod SmallLaws
 pub mod StepLaws
 pub mod StreamLaws
 pub mod SymbolReads

@@ -91,11 +91,20 @@ impl Job {
         ensures { IsRead (bits_of bytes.now) self.new }
     {
         self.text = None;
-        if bytes.len() > MOST_BYTES || self.links.len() != MOST_SIZE {
+        if bytes.len() > MOST_BYTES
+            || self.raw.len() != MOST_SIZE
+            || self.links.len() != MOST_SIZE
+        {
             return;
         }
         if let Some(start) = self.start {
-            self.text = Some(read_text(&mut self.codes, self.links.as_mut_slice(), bytes, start));
+            self.text = Some(read_text(
+                &mut self.codes,
+                self.raw.as_mut_slice(),
+                self.links.as_mut_slice(),
+                bytes,
+                start,
+            ));
         }
     }
 

@@ -7,7 +7,7 @@ ghost use Rattle.bzip2_reader.specs.Blocks.{block_at, block_head_at, rows_at};
 ghost use Rattle.bzip2_reader.specs.Heads.{head_of};
 ghost use Rattle.bzip2_reader.specs.Cursors.{bits_left};
 ghost use Rattle.bzip2_reader.specs.Fields.{Gives, Takes, bits_of, number};
-ghost use Rattle.bzip2_reader.specs.Links.{AreLinks, AreSmall, IsWalk};
+ghost use Rattle.bzip2_reader.specs.Links.{AreSmall, IsWalk};
 ghost use Rattle.bzip2_reader.specs.Checksums.{checksum_of};
 ghost use Rattle.bzip2_reader.specs.Runs.{IsSettled, IsWithin, count_written, written};
 
@@ -61,18 +61,18 @@ fn read_head(cursor: &mut Cursor<'_>) -> Result<Head, BlockFault>
     Ok(Head { checksum, origin })
 }
 
-/// Reads the symbols of a block into the low bytes of links, and returns how many there are.
+/// Reads the symbols of a block into a column, and returns how many bytes there are.
 #[tactic(auto, unfolding(crate::specs::Blocks::rows_at))]
 fn read_symbols(
     cursor: &mut Cursor<'_>,
     codes: &mut Codes,
-    links: &mut [u32],
+    column: &mut [u8],
 ) -> Result<usize, BlockFault>
-    requires room { length links.old ≡ 900000 }
+    requires room { length column.old ≡ 900000 }
     ensures bytes { OnOk result (cursor.new.bytes.now ≡ cursor.old.bytes.now) }
-    ensures within { IfOk result (λ n. n ≤ length links.new) }
-    ensures small { IfOk result (λ n. AreSmall (take n links.new)) }
-    ensures takes { Takes (λ n. take n links.new) result (bits_left cursor.new) (rows_at (bits_left cursor.old)) }
+    ensures within { IfOk result (λ n. n ≤ length column.new) }
+    ensures small { IfOk result (λ n. AreSmall (take n column.new)) }
+    ensures takes { Takes (λ n. take n column.new) result (bits_left cursor.new) (rows_at (bits_left cursor.old)) }
 {
     let mut order = [0u8; 256];
     let used = read_used(cursor, &mut order)?;
@@ -92,7 +92,7 @@ fn read_symbols(
         codes.selectors(),
         &mut order,
         used,
-        links,
+        column,
     )?;
     cursor.move_to(decoded.end);
     Ok(decoded.count)
@@ -111,15 +111,18 @@ pub(crate) struct Text {
     pub(crate) end: usize,
 }
 
-/// Reads the block that begins at this bit into links: the bytes that walk them from the first on are its text.
+/// Reads the block that begins at this bit into a column, and makes its links: the bytes that walk them from the first on
+/// are its text.
 pub(crate) fn read_text(
     codes: &mut Codes,
+    column: &mut [u8],
     links: &mut [u32],
     bytes: &[u8],
     at: usize,
 ) -> Result<Text, BlockFault>
     requires short { length bytes.now ≤ 2 ^ 40 }
-    requires room { length links.old ≡ 900000 }
+    requires column { length column.old ≡ 900000 }
+    requires links { length links.old ≡ 900000 }
     ensures named { IfOk result (λ t. t.checksum ≡ bits_at bytes.now (at + 48) 32) }
     ensures size { IfOk result (λ t. t.size ≤ 900000) }
     ensures end { IfOk result (λ t. t.end ≤ 8 * length bytes.now) }
@@ -132,17 +135,15 @@ pub(crate) fn read_text(
         return Err(BlockFault::ShortBlock);
     };
     let head = read_head(&mut cursor)?;
-    let size = read_symbols(&mut cursor, codes, links)?;
-    let links = &mut links[..size];
-    link(links);
-    let origin = head.origin as usize;
-    if origin >= links.len() {
+    let size = read_symbols(&mut cursor, codes, column)?;
+    if head.origin as usize >= size {
         return Err(BlockFault::BadOrigin);
     }
+    link(&column[..size], links);
     Ok(Text {
         checksum: head.checksum,
         size,
-        first: links[origin] >> 8,
+        first: head.origin,
         end: cursor.at,
     })
 }

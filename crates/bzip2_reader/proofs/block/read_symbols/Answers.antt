@@ -1,10 +1,9 @@
 use Rattle.std.proofs.Common.{◌≡◌, ◌<◌, ◌+◌, [], length, length-take, get_or, map, take, sym, ◌∙◌, ap, arith}
-use Rattle.std.proofs.lemmas.List.{get_or-map, length-map}
+use Rattle.std.proofs.lemmas.List.{get_or-map, get_or-take, length-map}
 use Rattle.bzip2_reader.specs.Cursors.{bits_left}
 use Rattle.bzip2_reader.specs.TableSets.{table_lengths}
 use Rattle.bzip2_reader.proofs.SizeLaws.{tables_sized}
 use Rattle.bzip2_reader.proofs.MoveLaws.{front_at}
-use Rattle.bzip2_reader.proofs.SmallLaws.{column_bytes, values_bytes}
 use Rattle.bzip2_reader.proofs.block.read_symbols.Goals as goal
 
 pub decode_symbols-requires-clause-selectors : goal.decode_symbols-requires-clause-selectors
@@ -27,6 +26,7 @@ decode_symbols-requires-clause-tables c = λ k d less.
     ap (λ l. length (table_lengths (get_or l k d))) c.tables.ensures ∙ ap length (sym (get_or-map table_lengths tables k d [] inside)) ∙ sized.1 k few)
 
 pub returns-clause-small : goal.returns-clause-small
-returns-clause-small c =
-    let bytes = column_bytes _ _ _ _ _ _ _ (values_bytes (bits_left c.args.cursor.now) (take c.in_ok-used.used c.read_used.new.order) (bits_left c.read_used.new.cursor) c.in_ok-used.ensures.takes) c.in_ok-decoded.ensures.read in
-    λ k less. bytes k
+returns-clause-small c = λ k less.
+    (let n = c.in_ok-decoded.decoded.count in
+    let column = c.decode_symbols.new.column in
+    omega (arith, get_or-take n column k 0 (omega (arith, less, length-take n column)), c.type_inv.column k))

@@ -1,13 +1,12 @@
-use Rattle.std.proofs.Common.{◌≡◌, ◌<◌, ◌*◌, ◌/◌, ◌++◌, ℕ, Ok, length, length-take-le, get_or, take, drop, drop_of_length-le, sym, ◌∙◌, ap, arith, subst}
+use Rattle.std.proofs.Common.{◌≡◌, ◌<◌, ◌*◌, Ok, length, length-take-le, take, drop, drop_of_length-le, sym, ◌∙◌, ap, arith}
 use Rattle.std.proofs.lemmas.Result.{err_from_is_err_and}
 use Rattle.bzip2_reader.specs.Blocks.{block_head_at}
 use Rattle.bzip2_reader.specs.Cursors.{bits_left}
 use Rattle.bzip2_reader.specs.Fields.{bits_of}
 use Rattle.bzip2_reader.specs.Heads.{head_of}
-use Rattle.bzip2_reader.specs.Links.{AreLinks, IsWalk}
 use Rattle.bzip2_reader.specs.Transform.{row_after, text_from}
 use Rattle.bzip2_reader.proofs.BlockLaws.{block_none, block_read, column_fault, head_fault, row_fault}
-use Rattle.bzip2_reader.proofs.RowLaws.{get_left, walked_text}
+use Rattle.bzip2_reader.proofs.RowLaws.{walked_text}
 use Rattle.bzip2_reader.proofs.WordLaws.{bits_length}
 use Rattle.bzip2_reader.proofs.block.read_text.Goals as goal
 
@@ -31,27 +30,23 @@ returns-in_err-size-clause-fault c =
     let head : block_head_at bits ≡ Ok (head_of c.in_ok-head.head, bits_left c.read_head.new.cursor) = ap block_head_at (sym left) ∙ c.in_ok-head.ensures.takes in
     rw (p.1, p.2) (column_fault bits (bits_left c.read_head.new.cursor) (head_of c.in_ok-head.head) c.in_err-size.field-0.0 head c.in_err-size.ensures.takes)
 
-pub returns-then-origin-links-clause-fault : goal.returns-then-origin-links-clause-fault
-returns-then-origin-links-clause-fault c =
+pub returns-then-head-size-clause-fault : goal.returns-then-head-size-clause-fault
+returns-then-head-size-clause-fault c =
     let bits = drop c.args.at (bits_of c.args.bytes.now) in
     let left : bits_left c.in-Some.cursor ≡ bits = ap (λ n. drop n (bits_of c.in-Some.cursor.bytes.now)) c.in-Some.ensures.some.1 ∙ ap (λ l. drop c.args.at (bits_of l)) c.in-Some.ensures.some.0 in
     let head : block_head_at bits ≡ Ok (head_of c.in_ok-head.head, bits_left c.read_head.new.cursor) = ap block_head_at (sym left) ∙ c.in_ok-head.ensures.takes in
-    row_fault bits (bits_left c.read_head.new.cursor) (take c.in_ok-size.size c.read_symbols.new.links) (bits_left c.read_symbols.new.cursor) (head_of c.in_ok-head.head) head c.in_ok-size.ensures.takes (omega (arith, c.if-origin-links.true, length-take-le c.in_ok-size.size c.read_symbols.new.links c.in_ok-size.ensures.within))
+    row_fault bits (bits_left c.read_head.new.cursor) (take c.in_ok-size.size c.read_symbols.new.column) (bits_left c.read_symbols.new.cursor) (head_of c.in_ok-head.head) head c.in_ok-size.ensures.takes (omega (arith, c.if-head-size.true, length-take-le c.in_ok-size.size c.read_symbols.new.column c.in_ok-size.ensures.within))
 
 pub returns-clause-block : goal.returns-clause-block
 returns-clause-block c = λ raw size walk.
     (let bits = drop c.args.at (bits_of c.args.bytes.now) in
     let left : bits_left c.in-Some.cursor ≡ bits = ap (λ n. drop n (bits_of c.in-Some.cursor.bytes.now)) c.in-Some.ensures.some.1 ∙ ap (λ l. drop c.args.at (bits_of l)) c.in-Some.ensures.some.0 in
     let head : block_head_at bits ≡ Ok (head_of c.in_ok-head.head, bits_left c.read_head.new.cursor) = ap block_head_at (sym left) ∙ c.in_ok-head.ensures.takes in
-    let column = take c.in_ok-size.size c.read_symbols.new.links in
-    let whole = c.link.new.links ++ drop c.in_ok-size.size c.read_symbols.new.links in
-    let long : length column ≡ c.in_ok-size.size = length-take-le c.in_ok-size.size c.read_symbols.new.links c.in_ok-size.ensures.within in
+    let column = take c.in_ok-size.size c.read_symbols.new.column in
+    let long : length column ≡ c.in_ok-size.size = length-take-le c.in_ok-size.size c.read_symbols.new.column c.in_ok-size.ensures.within in
     let row = c.in_ok-head.head.origin in
-    let inside : row < length column = omega (arith, long, c.if-origin-links.false) in
-    let same : length c.link.new.links ≡ length column = c.link.auto.links in
-    let links : AreLinks column whole = λ k less. get_left c.link.new.links (drop c.in_ok-size.size c.read_symbols.new.links) k (omega (arith, same, less)) ∙ c.link.ensures k less in
-    let first : get_or c.link.new.links row 0 / 256 ≡ get_or (row_after column) row 0 = (let link = c.link.ensures row inside in omega (arith, link, c.in_ok-size.ensures.small row inside)) in
-    let text = walked_text column whole raw row c.in_ok-size.ensures.small links inside (subst (λ (n : ℕ). IsWalk whole n raw) first walk) in
+    let inside : row < length column = omega (arith, long, c.if-head-size.false) in
+    let text = walked_text column c.link.new.links raw row c.in_ok-size.ensures.small c.link.ensures inside walk in
     let bytes : c.read_symbols.new.cursor.bytes.now ≡ c.args.bytes.now = c.in_ok-size.ensures.bytes ∙ c.in_ok-head.ensures.bytes ∙ c.in-Some.ensures.some.0 in
     block_read bits (bits_left c.read_head.new.cursor) column (bits_left c.read_symbols.new.cursor) (head_of c.in_ok-head.head) head c.in_ok-size.ensures.takes inside
     ∙ ap (λ t. Ok (record { checksum = c.in_ok-head.head.checksum; text = t }, bits_left c.read_symbols.new.cursor)) (ap (text_from column (row_after column) row) (long ∙ sym size) ∙ sym text)
