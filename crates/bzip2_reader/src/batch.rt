@@ -71,19 +71,13 @@ impl Job {
         self.walks.make_room()
     }
 
-    /// Gives it this place. Returns the next one at which a block may begin, if it is before this end.
-    fn deal(
-        &mut self,
-        bytes: &[u8],
-        place: Option<usize>,
-        end: usize,
-    ) -> Result<Option<usize>, AllocError> {
+    /// Gives it this place, and makes the memory for the block.
+    fn deal(&mut self, place: Option<usize>) -> Result<(), AllocError> {
         self.start = place;
-        let Some(place) = place else {
-            return Ok(None);
-        };
-        self.make_room()?;
-        Ok(next_block(bytes, place.saturating_add(1)).filter(|next| *next < end))
+        if place.is_some() {
+            self.make_room()?;
+        }
+        Ok(())
     }
 
     /// Reads the block, if there is one and room for it.
@@ -210,15 +204,23 @@ impl<R: Threads + Sync> Team for Beside<'_, R> {
     }
 }
 
+/// The next place after this one at which a block may begin, if it is before this end.
+fn next_place(bytes: &[u8], place: Option<usize>, end: usize) -> Option<usize> {
+    next_block(bytes, place?.saturating_add(1)).filter(|next| *next < end)
+}
+
 /// Deals the places from this bit on at which blocks may begin among the jobs, and returns how many have one.
 fn deal_all(jobs: &mut [Job], bytes: &[u8], at: usize, end: usize) -> Result<usize, AllocError> {
     let mut place = Some(at);
     let mut dealt = 0usize;
     for job in jobs.iter_mut() {
+        if dealt > 0 {
+            place = next_place(bytes, place, end);
+        }
+        job.deal(place)?;
         if place.is_some() {
             dealt = dealt.saturating_add(1);
         }
-        place = job.deal(bytes, place, end)?;
     }
     Ok(dealt)
 }

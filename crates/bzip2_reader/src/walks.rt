@@ -37,24 +37,22 @@ impl Lane {
         self.size = 0;
     }
 
-    /// Goes a step on, if there is room for its byte.
+    /// Goes a step on, and returns whether it came to the next segment. Without room for a byte it returns that, too.
     #[inline(always)]
-    fn step(&mut self, links: &[u32])
+    fn step(&mut self, links: &[u32]) -> bool
         requires { IsLane links.now self.old }
         ensures { IsLane links.now self.new }
     {
-        if self.size < self.bytes.len() {
-            let link = link_at(links, self.row);
-            self.bytes[self.size] = (link % 256) as u8;
-            self.size += 1;
-            self.row = link / 256;
+        let size = self.size;
+        if size >= self.bytes.len() {
+            return true;
         }
-    }
-
-    /// Whether it came to the next segment, or has no more room.
-    #[inline(always)]
-    fn is_done(&self) -> bool {
-        self.row % STRIDE == 0 || self.size >= self.bytes.len()
+        let link = link_at(links, self.row);
+        let row = link / 256;
+        self.row = row;
+        self.size = size + 1;
+        self.bytes[size] = (link % 256) as u8;
+        row % STRIDE == 0
     }
 }
 
@@ -201,8 +199,7 @@ fn step_all(links: &[u32], lanes: &mut [Lane], segments: &mut Segments, begun: u
 {
     let mut next = begun;
     for lane in lanes.iter_mut() {
-        lane.step(links);
-        if lane.is_done() {
+        if lane.step(links) {
             segments.keep(lane);
             lane.begin(next);
             next = next.wrapping_add(STRIDE);
@@ -223,7 +220,8 @@ fn keep_all(links: &[u32], lanes: &[Lane], segments: &mut Segments)
 }
 
 /// Walks the segments of a text of this size side by side. Those that aren't begun when all steps were taken are left
-/// out.
+/// out. It is a function by itself, so that what a step needs stays in registers.
+#[inline(never)]
 fn walk_all(links: &[u32], lanes: &mut [Lane], segments: &mut Segments, size: usize)
     requires { AreSegments links.now segments.old }
     ensures { AreSegments links.now segments.new }
