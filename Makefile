@@ -41,6 +41,7 @@ help:
 	@echo 'make growths      fails each allocation of the test programs that state what is left then'
 	@echo 'make same         every number of workers and ring gives the same bytes'
 	@echo 'make fuzz         replays damaged dumps (FILES=800 of them; SAMPLES=DIRECTORY adds dumps to damage)'
+	@echo 'make gzip-drawn   unpacks drawn and damaged gzip files beside zlib (FILES=2000 of them)'
 	@echo 'make maps         makes twenty million drawn calls of the prefix maps beside a plain list'
 	@echo 'make edits        tries further wrong bodies of each crate: the check must refuse them'
 	@echo 'make hostile      replays dumps that are costly to read, at a size and twice that size'
@@ -157,6 +158,10 @@ fuzz: $(BINARY)
 	tests/fuzz.sh '$(BINARY)' $(FILES)
 	FAMILY=ipv6 tests/fuzz.sh '$(BINARY)' $(FILES)
 
+# Files that zlib packs, whole and damaged, beside what zlib reads of them.
+gzip-drawn: $(BINARY)
+	python3 tests/gzip_drawn.py '$(BINARY)' $(FILES)
+
 hostile: $(BINARY)
 	tests/hostile.sh '$(BINARY)'
 
@@ -166,5 +171,5 @@ bench: $(PROGRAM)
 clean:
 	rm -rf bin dist bench/out crates/*/out
 
-.PHONY: all help quick run check verdict quick-check python-check page edits install uninstall dist deb python-deb scripts refusals growths maps same fuzz hostile bench clean
+.PHONY: all help quick run check verdict quick-check python-check page edits install uninstall dist deb python-deb scripts refusals growths maps same fuzz gzip-drawn hostile bench clean
 .PHONY: proved
