@@ -113,26 +113,38 @@ pub bits_look_up : (x : ℕ) → bit_xor (x / 256) (crc_bits 8 (x % 256)) ≡ cr
 unfolding crc_bits
 bits_look_up x = sym (bits_split 0 x)
 
--- eight look-ups
-pub bits_eight : (w a b c d e f g : ℕ) → a ≡ w / 256 → b ≡ a / 256 → c ≡ b / 256 → d ≡ c / 256 → e ≡ d / 256 → f ≡ e / 256 → g ≡ f / 256 →
-    crc_bits 64 w ≡ bit_xor (crc_bits 64 (w % 256)) (bit_xor (crc_bits 56 (a % 256)) (bit_xor (crc_bits 48 (b % 256)) (bit_xor (crc_bits 40 (c % 256))
-    (bit_xor (crc_bits 32 (d % 256)) (bit_xor (crc_bits 24 (e % 256)) (bit_xor (crc_bits 16 (f % 256)) (crc_bits 8 g)))))))
-bits_eight w a b c d e f g pa pb pc pd pe pf pg =
-    rw (pg, pf, pe, pd, pc, pb, pa)
-    (bits_byte_first 56 w ∙ ap (λ (v : ℕ). bit_xor (crc_bits 64 (w % 256)) v)
-    (bits_byte_first 48 _ ∙ ap (λ (v : ℕ). bit_xor (crc_bits 56 (w / 256 % 256)) v)
-    (bits_byte_first 40 _ ∙ ap (λ (v : ℕ). bit_xor (crc_bits 48 (w / 256 / 256 % 256)) v)
-    (bits_byte_first 32 _ ∙ ap (λ (v : ℕ). bit_xor (crc_bits 40 (w / 256 / 256 / 256 % 256)) v)
-    (bits_byte_first 24 _ ∙ ap (λ (v : ℕ). bit_xor (crc_bits 32 (w / 256 / 256 / 256 / 256 % 256)) v)
-    (bits_byte_first 16 _ ∙ ap (λ (v : ℕ). bit_xor (crc_bits 24 (w / 256 / 256 / 256 / 256 / 256 % 256)) v)
-    (bits_byte_first 8 _)))))))
+-- the share of the lowest byte first, so many bits later
+byte_first : (m k x : ℕ) → m ≡ 8 + k → crc_bits m x ≡ bit_xor (crc_bits m (x % 256)) (crc_bits k (x / 256))
+byte_first m k x e =
+    ap (λ (j : ℕ). crc_bits j x) e ∙ bits_byte_first k x ∙ ap (λ (j : ℕ). bit_xor (crc_bits j (x % 256)) (crc_bits k (x / 256))) (sym e)
 
-pub table_at : (t : List ℕ) (j b : ℕ) → IsTable 2048 t → j < 8 → b < 256 → slice_index t (256 * j + b) ≡ crc_bits (8 * j + 8) b
+-- eight look-ups, so many bits later
+pub bits_eight : (n w a b c d e f g : ℕ) → a ≡ w / 256 → b ≡ a / 256 → c ≡ b / 256 → d ≡ c / 256 → e ≡ d / 256 → f ≡ e / 256 → g ≡ f / 256 →
+    crc_bits (64 + n) w ≡ bit_xor (crc_bits (64 + n) (w % 256)) (bit_xor (crc_bits (56 + n) (a % 256)) (bit_xor (crc_bits (48 + n) (b % 256)) (bit_xor (crc_bits (40 + n) (c % 256))
+    (bit_xor (crc_bits (32 + n) (d % 256)) (bit_xor (crc_bits (24 + n) (e % 256)) (bit_xor (crc_bits (16 + n) (f % 256)) (crc_bits (8 + n) g)))))))
+bits_eight n w a b c d e f g pa pb pc pd pe pf pg =
+    byte_first (64 + n) (56 + n) w (omega arith) ∙ ap (λ (v : ℕ). bit_xor (crc_bits (64 + n) (w % 256)) v) (ap (crc_bits (56 + n)) (sym pa)
+    ∙ byte_first (56 + n) (48 + n) a (omega arith) ∙ ap (λ (v : ℕ). bit_xor (crc_bits (56 + n) (a % 256)) v) (ap (crc_bits (48 + n)) (sym pb)
+    ∙ byte_first (48 + n) (40 + n) b (omega arith) ∙ ap (λ (v : ℕ). bit_xor (crc_bits (48 + n) (b % 256)) v) (ap (crc_bits (40 + n)) (sym pc)
+    ∙ byte_first (40 + n) (32 + n) c (omega arith) ∙ ap (λ (v : ℕ). bit_xor (crc_bits (40 + n) (c % 256)) v) (ap (crc_bits (32 + n)) (sym pd)
+    ∙ byte_first (32 + n) (24 + n) d (omega arith) ∙ ap (λ (v : ℕ). bit_xor (crc_bits (32 + n) (d % 256)) v) (ap (crc_bits (24 + n)) (sym pe)
+    ∙ byte_first (24 + n) (16 + n) e (omega arith) ∙ ap (λ (v : ℕ). bit_xor (crc_bits (24 + n) (e % 256)) v) (ap (crc_bits (16 + n)) (sym pf)
+    ∙ byte_first (16 + n) (8 + n) f (omega arith) ∙ ap (λ (v : ℕ). bit_xor (crc_bits (16 + n) (f % 256)) v) (ap (crc_bits (8 + n)) (sym pg))))))))
+
+pub table_at : (t : List ℕ) (j b : ℕ) → IsTable 4096 t → j < 16 → b < 256 → slice_index t (256 * j + b) ≡ crc_bits (8 * j + 8) b
 table_at t j b is p q =
     let row : (256 * j + b) / 256 ≡ j = omega arith in
     let column : (256 * j + b) % 256 ≡ b = omega arith in
     let at : slice_index t (256 * j + b) ≡ crc_bits (8 * ((256 * j + b) / 256) + 8) ((256 * j + b) % 256) = is (256 * j + b) (omega arith) in
     at ∙ ap (λ (n : ℕ). crc_bits (8 * n + 8) ((256 * j + b) % 256)) row ∙ ap (λ (n : ℕ). crc_bits (8 * j + 8) n) column
+
+-- one of eight, where so many bytes more follow
+table_later : (t : List ℕ) (from more place k n b : ℕ) → IsTable 4096 t → from ≡ 256 * more → k + more < 16 → b < 256 → place ≡ from + 256 * k + b → n ≡ 8 * k + 8 + 8 * more →
+    slice_index t place ≡ crc_bits n b
+table_later t from more place k n b is start few small at bits =
+    let p : place ≡ 256 * (k + more) + b = omega arith in
+    let q : 8 * (k + more) + 8 ≡ n = omega arith in
+    ap (slice_index t) p ∙ table_at t (k + more) b is few small ∙ ap (λ (m : ℕ). crc_bits m b) q
 
 pub table_more : (t : List ℕ) (i v : ℕ) → i < length t → IsTable i t → v ≡ crc_bits (8 * (i / 256) + 8) (i % 256) → IsTable (i + 1) (slice_set t i v)
 table_more t i v inside is e k below = grind (arith, common_steps, is k)
@@ -145,7 +157,7 @@ table_first i v small e =
     e ∙ ap (λ (n : ℕ). crc_bits 8 n) (sym column) ∙ ap (λ (n : ℕ). crc_bits n (i % 256)) (sym row)
 
 -- a further table, from the one before
-pub table_next : (t : List ℕ) (i before : ℕ) → 256 ≤ i → i < 2048 → IsTable i t → before ≡ slice_index t (i - 256) →
+pub table_next : (t : List ℕ) (i before : ℕ) → 256 ≤ i → i < 4096 → IsTable i t → before ≡ slice_index t (i - 256) →
     bit_xor (before / 256) (slice_index t (before % 256)) ≡ crc_bits (8 * (i / 256) + 8) (i % 256)
 table_next t i before low high is e =
     let at : slice_index t (before % 256) ≡ crc_bits 8 (before % 256) =
@@ -195,25 +207,34 @@ crc_eight r w bs long small e =
 pub xor_both : (a b c d : ℕ) → a ≡ b → c ≡ d → bit_xor a c ≡ bit_xor b d
 xor_both a b c d p q = ap (λ (n : ℕ). bit_xor n c) p ∙ ap (λ (n : ℕ). bit_xor b n) q
 
-pub eight_look_ups : (t bs : List ℕ) (r w : ℕ) → IsTable 2048 t → w < 2 ^ 64 → length bs ≡ 8 → ((k : ℕ) → slice_index bs k < 256) → w ≡ bit_xor (little_from 0 8 bs) r →
-    bit_xor (slice_index t (1792 + w % 256)) (bit_xor (slice_index t (1536 + w / 256 % 256)) (bit_xor (slice_index t (1280 + w / 256 / 256 % 256))
-    (bit_xor (slice_index t (1024 + w / 256 / 256 / 256 % 256)) (bit_xor (slice_index t (768 + w / 256 / 256 / 256 / 256 % 256))
-    (bit_xor (slice_index t (512 + w / 256 / 256 / 256 / 256 / 256 % 256)) (bit_xor (slice_index t (256 + w / 256 / 256 / 256 / 256 / 256 / 256 % 256))
-    (slice_index t (w / 256 / 256 / 256 / 256 / 256 / 256 / 256)))))))) ≡ crc r bs
-eight_look_ups t bs r w is fits long small e =
+pub eight_look_ups : (t : List ℕ) (from more w : ℕ) → IsTable 4096 t → from ≡ 256 * more → from ≤ 2048 → w < 2 ^ 64 →
+    bit_xor (slice_index t (from + 1792 + w % 256)) (bit_xor (slice_index t (from + 1536 + w / 256 % 256)) (bit_xor (slice_index t (from + 1280 + w / 256 / 256 % 256))
+    (bit_xor (slice_index t (from + 1024 + w / 256 / 256 / 256 % 256)) (bit_xor (slice_index t (from + 768 + w / 256 / 256 / 256 / 256 % 256))
+    (bit_xor (slice_index t (from + 512 + w / 256 / 256 / 256 / 256 / 256 % 256)) (bit_xor (slice_index t (from + 256 + w / 256 / 256 / 256 / 256 / 256 / 256 % 256))
+    (slice_index t (from + w / 256 / 256 / 256 / 256 / 256 / 256 / 256)))))))) ≡ crc_bits (64 + 8 * more) w
+eight_look_ups t from more w is start few fits =
     let g : ℕ = w / 256 / 256 / 256 / 256 / 256 / 256 / 256 in
     let last : g < 256 = omega arith in
-    let z : g ≡ 256 * 0 + g = omega arith in
-    xor_both _ _ _ _ (table_at t 7 (w % 256) is (omega arith) (omega arith))
-    (xor_both _ _ _ _ (table_at t 6 (w / 256 % 256) is (omega arith) (omega arith))
-    (xor_both _ _ _ _ (table_at t 5 (w / 256 / 256 % 256) is (omega arith) (omega arith))
-    (xor_both _ _ _ _ (table_at t 4 (w / 256 / 256 / 256 % 256) is (omega arith) (omega arith))
-    (xor_both _ _ _ _ (table_at t 3 (w / 256 / 256 / 256 / 256 % 256) is (omega arith) (omega arith))
-    (xor_both _ _ _ _ (table_at t 2 (w / 256 / 256 / 256 / 256 / 256 % 256) is (omega arith) (omega arith))
-    (xor_both _ _ _ _ (table_at t 1 (w / 256 / 256 / 256 / 256 / 256 / 256 % 256) is (omega arith) (omega arith))
-    (ap (λ (n : ℕ). slice_index t n) z ∙ table_at t 0 g is (omega arith) last)))))))
-    ∙ sym (bits_eight w _ _ _ _ _ _ _ refl refl refl refl refl refl refl)
-    ∙ sym (crc_eight r w bs long small e)
+    xor_both _ _ _ _ (table_later t from more _ 7 (64 + 8 * more) (w % 256) is start (omega arith) (omega arith) (omega arith) (omega arith))
+    (xor_both _ _ _ _ (table_later t from more _ 6 (56 + 8 * more) (w / 256 % 256) is start (omega arith) (omega arith) (omega arith) (omega arith))
+    (xor_both _ _ _ _ (table_later t from more _ 5 (48 + 8 * more) (w / 256 / 256 % 256) is start (omega arith) (omega arith) (omega arith) (omega arith))
+    (xor_both _ _ _ _ (table_later t from more _ 4 (40 + 8 * more) (w / 256 / 256 / 256 % 256) is start (omega arith) (omega arith) (omega arith) (omega arith))
+    (xor_both _ _ _ _ (table_later t from more _ 3 (32 + 8 * more) (w / 256 / 256 / 256 / 256 % 256) is start (omega arith) (omega arith) (omega arith) (omega arith))
+    (xor_both _ _ _ _ (table_later t from more _ 2 (24 + 8 * more) (w / 256 / 256 / 256 / 256 / 256 % 256) is start (omega arith) (omega arith) (omega arith) (omega arith))
+    (xor_both _ _ _ _ (table_later t from more _ 1 (16 + 8 * more) (w / 256 / 256 / 256 / 256 / 256 / 256 % 256) is start (omega arith) (omega arith) (omega arith) (omega arith))
+    (table_later t from more _ 0 (8 + 8 * more) g is start (omega arith) last (omega arith) (omega arith))))))))
+    ∙ sym (bits_eight (8 * more) w _ _ _ _ _ _ _ refl refl refl refl refl refl refl)
+
+-- sixteen bytes at once
+pub crc_sixteen : (r x y : ℕ) (xs ys : List ℕ) → length xs ≡ 8 → length ys ≡ 8 → ((k : ℕ) → slice_index xs k < 256) → ((k : ℕ) → slice_index ys k < 256) →
+    x ≡ bit_xor (little_from 0 8 xs) r → y ≡ little_from 0 8 ys → bit_xor (crc_bits 128 x) (crc_bits 64 y) ≡ crc r (xs ++ ys)
+crc_sixteen r x y xs ys long_xs long_ys small_xs small_ys ex ey =
+    let first : crc r xs ≡ crc_bits 64 x = crc_eight r x xs long_xs small_xs ex in
+    let second : crc (crc r xs) ys ≡ crc_bits 64 (bit_xor y (crc r xs)) =
+    crc_eight (crc r xs) (bit_xor y (crc r xs)) ys long_ys small_ys (ap (λ (n : ℕ). bit_xor n (crc r xs)) ey) in
+    sym (crc_append r xs ys ∙ second ∙ bits_linear 64 y (crc r xs)
+    ∙ xor_comm (crc_bits 64 y) (crc_bits 64 (crc r xs))
+    ∙ ap (λ (n : ℕ). bit_xor n (crc_bits 64 y)) (ap (crc_bits 64) first ∙ sym (bits_more 64 64 x)))
 
 -- the register after the first of the bytes that are left
 pub crc_front : (v u : ℕ) (front rest all : List ℕ) → front ++ rest ≡ all → u ≡ crc v front → crc u rest ≡ crc v all
@@ -224,7 +245,7 @@ pub crc_one : (v u i : ℕ) (bs : List ℕ) → i < length bs → u ≡ crc_bits
 unfolding crc
 crc_one v u i bs inside e = crc_front v u (slice_index bs i ∷ []) (drop (i + 1) bs) (drop i bs) (grind (arith, common_steps, drop-cons bs i 0 inside)) e
 
-pub step_look_up : (s t : List ℕ) (mixed : ℕ) → s ≡ t → IsTable 2048 t → bit_xor (mixed / 256) (slice_index s (mixed % 256)) ≡ crc_bits 8 mixed
+pub step_look_up : (s t : List ℕ) (mixed : ℕ) → s ≡ t → IsTable 4096 t → bit_xor (mixed / 256) (slice_index s (mixed % 256)) ≡ crc_bits 8 mixed
 step_look_up s t mixed same is =
     let z : mixed % 256 ≡ 256 * 0 + mixed % 256 = omega arith in
     ap (λ (l : List ℕ). bit_xor (mixed / 256) (slice_index l (mixed % 256))) same

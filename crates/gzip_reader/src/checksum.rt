@@ -1,6 +1,6 @@
-//! CRC-32 (RFC 1952, section 8), eight bytes at a time.
+//! CRC-32 (RFC 1952, section 8), sixteen bytes at a time.
 
-ghost use Rattle.std.specs.Prelude.{◌≡◌, length, vec_len, bit_xor};
+ghost use Rattle.std.specs.Prelude.{◌≡◌, ◌≤◌, ◌+◌, ◌*◌, ℕ, length, vec_len, bit_xor};
 ghost use Rattle.gzip_reader.specs.Crc.{IsTable, crc, crc_bits};
 
 use byteorder::{ByteOrder, LittleEndian};
@@ -9,15 +9,15 @@ use std::alloc::{AllocError, Global};
 /// The polynomial, its bits in reverse order.
 const POLYNOMIAL: u32 = 0xEDB8_8320;
 
-/// The size of eight tables of 256 entries.
-const TABLES: usize = 2048;
+/// The size of sixteen tables of 256 entries.
+const TABLES: usize = 4096;
 
-/// Eight tables: entry n of table k is the register after the byte n and k zero bytes.
+/// Sixteen tables: entry n of table k is the register after the byte n and k zero bytes.
 #[derive(Debug, Drop)]
 pub(crate) struct CrcTables {
     table: Vec<u32>,
-    ghost size: { vec_len table ≡ 2048 },
-    ghost rows: { IsTable 2048 table.items },
+    ghost size: { vec_len table ≡ 4096 },
+    ghost rows: { IsTable 4096 table.items },
 }
 
 impl CrcTables {
@@ -33,8 +33,8 @@ impl CrcTables {
     {
         let mut value = register;
         let mut rest = bytes;
-        while let Some((word, more)) = rest.split_at_checked(8) {
-            value = self.eight(value, word);
+        while let Some((words, more)) = rest.split_at_checked(16) {
+            value = self.sixteen(value, words);
             rest = more;
         }
         for byte in rest {
@@ -43,14 +43,25 @@ impl CrcTables {
         value
     }
 
-    /// Returns the register after these eight bytes.
+    /// Returns the register after these sixteen bytes.
     #[inline(always)]
-    fn eight(&self, register: u32, bytes: &[u8]) -> u32
-        requires { length bytes.now ≡ 8 }
+    fn sixteen(&self, register: u32, bytes: &[u8]) -> u32
+        requires { length bytes.now ≡ 16 }
         ensures { result ≡ crc register bytes.now }
     {
+        let first = LittleEndian::read_u64(&bytes[..8]) ^ register as u64;
+        let second = LittleEndian::read_u64(&bytes[8..]);
+        self.eight(first, 2048) ^ self.eight(second, 0)
+    }
+
+    /// Returns the register after eight bytes and none more, or eight zero bytes more, where the tables of the last of them
+    /// begin.
+    #[inline(always)]
+    fn eight(&self, word: u64, from: usize) -> u32
+        requires { from ≤ 2048 }
+        ensures { (more : ℕ) → from ≡ 256 * more → result ≡ crc_bits (64 + 8 * more) word }
+    {
         let table = self.table.as_slice();
-        let word = LittleEndian::read_u64(bytes) ^ register as u64;
         let a = word / 256;
         let b = a / 256;
         let c = b / 256;
@@ -58,13 +69,14 @@ impl CrcTables {
         let e = d / 256;
         let f = e / 256;
         let g = f / 256;
-        table[1792 + (word % 256) as usize]
-            ^ (table[1536 + (a % 256) as usize]
-                ^ (table[1280 + (b % 256) as usize]
-                    ^ (table[1024 + (c % 256) as usize]
-                        ^ (table[768 + (d % 256) as usize]
-                            ^ (table[512 + (e % 256) as usize]
-                                ^ (table[256 + (f % 256) as usize] ^ table[g as usize]))))))
+        table[from + 1792 + (word % 256) as usize]
+            ^ (table[from + 1536 + (a % 256) as usize]
+                ^ (table[from + 1280 + (b % 256) as usize]
+                    ^ (table[from + 1024 + (c % 256) as usize]
+                        ^ (table[from + 768 + (d % 256) as usize]
+                            ^ (table[from + 512 + (e % 256) as usize]
+                                ^ (table[from + 256 + (f % 256) as usize]
+                                    ^ table[from + g as usize]))))))
     }
 
     /// Returns the register after this byte.
@@ -79,8 +91,8 @@ impl CrcTables {
 
 /// Makes the tables.
 fn fill(table: &mut [u32])
-    requires { length table.old ≡ 2048 }
-    ensures { IsTable 2048 table.new }
+    requires { length table.old ≡ 4096 }
+    ensures { IsTable 4096 table.new }
 {
     for n in 0..256usize {
         table[n] = remainder(n as u32);
