@@ -105,31 +105,28 @@ unfolding crc
 crc_append c [] ys = refl
 crc_append c (x ∷ xs) ys = crc_append (crc_bits 8 (bit_xor c x)) xs ys
 
-pub bits_byte_first : (n x : ℕ) → crc_bits (8 + n) x ≡ bit_xor (crc_bits (8 + n) (x % 256)) (crc_bits n (x / 256))
-bits_byte_first n x = bits_split n x ∙ xor_comm (crc_bits n (x / 256)) (crc_bits (8 + n) (x % 256))
-
 -- one look-up
 pub bits_look_up : (x : ℕ) → bit_xor (x / 256) (crc_bits 8 (x % 256)) ≡ crc_bits 8 x
 unfolding crc_bits
 bits_look_up x = sym (bits_split 0 x)
 
--- the share of the lowest byte first, so many bits later
-byte_first : (m k x : ℕ) → m ≡ 8 + k → crc_bits m x ≡ bit_xor (crc_bits m (x % 256)) (crc_bits k (x / 256))
-byte_first m k x e =
-    ap (λ (j : ℕ). crc_bits j x) e ∙ bits_byte_first k x ∙ ap (λ (j : ℕ). bit_xor (crc_bits j (x % 256)) (crc_bits k (x / 256))) (sym e)
+-- the share of the lowest byte last, so many bits later
+byte_last : (m k x : ℕ) → m ≡ 8 + k → crc_bits m x ≡ bit_xor (crc_bits k (x / 256)) (crc_bits m (x % 256))
+byte_last m k x e =
+    ap (λ (j : ℕ). crc_bits j x) e ∙ bits_split k x ∙ ap (λ (j : ℕ). bit_xor (crc_bits k (x / 256)) (crc_bits j (x % 256))) (sym e)
 
 -- eight look-ups, so many bits later
 pub bits_eight : (n w a b c d e f g : ℕ) → a ≡ w / 256 → b ≡ a / 256 → c ≡ b / 256 → d ≡ c / 256 → e ≡ d / 256 → f ≡ e / 256 → g ≡ f / 256 →
-    crc_bits (64 + n) w ≡ bit_xor (crc_bits (64 + n) (w % 256)) (bit_xor (crc_bits (56 + n) (a % 256)) (bit_xor (crc_bits (48 + n) (b % 256)) (bit_xor (crc_bits (40 + n) (c % 256))
-    (bit_xor (crc_bits (32 + n) (d % 256)) (bit_xor (crc_bits (24 + n) (e % 256)) (bit_xor (crc_bits (16 + n) (f % 256)) (crc_bits (8 + n) g)))))))
+    crc_bits (64 + n) w ≡ bit_xor (bit_xor (bit_xor (bit_xor (bit_xor (bit_xor (bit_xor (crc_bits (8 + n) g) (crc_bits (16 + n) (f % 256))) (crc_bits (24 + n) (e % 256)))
+    (crc_bits (32 + n) (d % 256))) (crc_bits (40 + n) (c % 256))) (crc_bits (48 + n) (b % 256))) (crc_bits (56 + n) (a % 256))) (crc_bits (64 + n) (w % 256))
 bits_eight n w a b c d e f g pa pb pc pd pe pf pg =
-    byte_first (64 + n) (56 + n) w (omega arith) ∙ ap (λ (v : ℕ). bit_xor (crc_bits (64 + n) (w % 256)) v) (ap (crc_bits (56 + n)) (sym pa)
-    ∙ byte_first (56 + n) (48 + n) a (omega arith) ∙ ap (λ (v : ℕ). bit_xor (crc_bits (56 + n) (a % 256)) v) (ap (crc_bits (48 + n)) (sym pb)
-    ∙ byte_first (48 + n) (40 + n) b (omega arith) ∙ ap (λ (v : ℕ). bit_xor (crc_bits (48 + n) (b % 256)) v) (ap (crc_bits (40 + n)) (sym pc)
-    ∙ byte_first (40 + n) (32 + n) c (omega arith) ∙ ap (λ (v : ℕ). bit_xor (crc_bits (40 + n) (c % 256)) v) (ap (crc_bits (32 + n)) (sym pd)
-    ∙ byte_first (32 + n) (24 + n) d (omega arith) ∙ ap (λ (v : ℕ). bit_xor (crc_bits (32 + n) (d % 256)) v) (ap (crc_bits (24 + n)) (sym pe)
-    ∙ byte_first (24 + n) (16 + n) e (omega arith) ∙ ap (λ (v : ℕ). bit_xor (crc_bits (24 + n) (e % 256)) v) (ap (crc_bits (16 + n)) (sym pf)
-    ∙ byte_first (16 + n) (8 + n) f (omega arith) ∙ ap (λ (v : ℕ). bit_xor (crc_bits (16 + n) (f % 256)) v) (ap (crc_bits (8 + n)) (sym pg))))))))
+    byte_last (64 + n) (56 + n) w (omega arith) ∙ ap (λ (v : ℕ). bit_xor v (crc_bits (64 + n) (w % 256))) (ap (crc_bits (56 + n)) (sym pa)
+    ∙ byte_last (56 + n) (48 + n) a (omega arith) ∙ ap (λ (v : ℕ). bit_xor v (crc_bits (56 + n) (a % 256))) (ap (crc_bits (48 + n)) (sym pb)
+    ∙ byte_last (48 + n) (40 + n) b (omega arith) ∙ ap (λ (v : ℕ). bit_xor v (crc_bits (48 + n) (b % 256))) (ap (crc_bits (40 + n)) (sym pc)
+    ∙ byte_last (40 + n) (32 + n) c (omega arith) ∙ ap (λ (v : ℕ). bit_xor v (crc_bits (40 + n) (c % 256))) (ap (crc_bits (32 + n)) (sym pd)
+    ∙ byte_last (32 + n) (24 + n) d (omega arith) ∙ ap (λ (v : ℕ). bit_xor v (crc_bits (32 + n) (d % 256))) (ap (crc_bits (24 + n)) (sym pe)
+    ∙ byte_last (24 + n) (16 + n) e (omega arith) ∙ ap (λ (v : ℕ). bit_xor v (crc_bits (24 + n) (e % 256))) (ap (crc_bits (16 + n)) (sym pf)
+    ∙ byte_last (16 + n) (8 + n) f (omega arith) ∙ ap (λ (v : ℕ). bit_xor v (crc_bits (16 + n) (f % 256))) (ap (crc_bits (8 + n)) (sym pg))))))))
 
 pub table_at : (t : List ℕ) (j b : ℕ) → IsTable 4096 t → j < 16 → b < 256 → slice_index t (256 * j + b) ≡ crc_bits (8 * j + 8) b
 table_at t j b is p q =
@@ -208,33 +205,33 @@ pub xor_both : (a b c d : ℕ) → a ≡ b → c ≡ d → bit_xor a c ≡ bit_x
 xor_both a b c d p q = ap (λ (n : ℕ). bit_xor n c) p ∙ ap (λ (n : ℕ). bit_xor b n) q
 
 pub eight_look_ups : (t : List ℕ) (from more w : ℕ) → IsTable 4096 t → from ≡ 256 * more → from ≤ 2048 → w < 2 ^ 64 →
-    bit_xor (slice_index t (from + 1792 + w % 256)) (bit_xor (slice_index t (from + 1536 + w / 256 % 256)) (bit_xor (slice_index t (from + 1280 + w / 256 / 256 % 256))
-    (bit_xor (slice_index t (from + 1024 + w / 256 / 256 / 256 % 256)) (bit_xor (slice_index t (from + 768 + w / 256 / 256 / 256 / 256 % 256))
-    (bit_xor (slice_index t (from + 512 + w / 256 / 256 / 256 / 256 / 256 % 256)) (bit_xor (slice_index t (from + 256 + w / 256 / 256 / 256 / 256 / 256 / 256 % 256))
-    (slice_index t (from + w / 256 / 256 / 256 / 256 / 256 / 256 / 256)))))))) ≡ crc_bits (64 + 8 * more) w
+    bit_xor (bit_xor (bit_xor (bit_xor (bit_xor (bit_xor (bit_xor (slice_index t (from + w / 256 / 256 / 256 / 256 / 256 / 256 / 256))
+    (slice_index t (from + 256 + w / 256 / 256 / 256 / 256 / 256 / 256 % 256))) (slice_index t (from + 512 + w / 256 / 256 / 256 / 256 / 256 % 256)))
+    (slice_index t (from + 768 + w / 256 / 256 / 256 / 256 % 256))) (slice_index t (from + 1024 + w / 256 / 256 / 256 % 256)))
+    (slice_index t (from + 1280 + w / 256 / 256 % 256))) (slice_index t (from + 1536 + w / 256 % 256))) (slice_index t (from + 1792 + w % 256)) ≡ crc_bits (64 + 8 * more) w
 eight_look_ups t from more w is start few fits =
     let g : ℕ = w / 256 / 256 / 256 / 256 / 256 / 256 / 256 in
     let last : g < 256 = omega arith in
-    xor_both _ _ _ _ (table_later t from more _ 7 (64 + 8 * more) (w % 256) is start (omega arith) (omega arith) (omega arith) (omega arith))
-    (xor_both _ _ _ _ (table_later t from more _ 6 (56 + 8 * more) (w / 256 % 256) is start (omega arith) (omega arith) (omega arith) (omega arith))
-    (xor_both _ _ _ _ (table_later t from more _ 5 (48 + 8 * more) (w / 256 / 256 % 256) is start (omega arith) (omega arith) (omega arith) (omega arith))
-    (xor_both _ _ _ _ (table_later t from more _ 4 (40 + 8 * more) (w / 256 / 256 / 256 % 256) is start (omega arith) (omega arith) (omega arith) (omega arith))
-    (xor_both _ _ _ _ (table_later t from more _ 3 (32 + 8 * more) (w / 256 / 256 / 256 / 256 % 256) is start (omega arith) (omega arith) (omega arith) (omega arith))
-    (xor_both _ _ _ _ (table_later t from more _ 2 (24 + 8 * more) (w / 256 / 256 / 256 / 256 / 256 % 256) is start (omega arith) (omega arith) (omega arith) (omega arith))
-    (xor_both _ _ _ _ (table_later t from more _ 1 (16 + 8 * more) (w / 256 / 256 / 256 / 256 / 256 / 256 % 256) is start (omega arith) (omega arith) (omega arith) (omega arith))
-    (table_later t from more _ 0 (8 + 8 * more) g is start (omega arith) last (omega arith) (omega arith))))))))
+    xor_both _ _ _ _ (xor_both _ _ _ _ (xor_both _ _ _ _ (xor_both _ _ _ _ (xor_both _ _ _ _ (xor_both _ _ _ _ (xor_both _ _ _ _
+    (table_later t from more _ 0 (8 + 8 * more) g is start (omega arith) last (omega arith) (omega arith))
+    (table_later t from more _ 1 (16 + 8 * more) (w / 256 / 256 / 256 / 256 / 256 / 256 % 256) is start (omega arith) (omega arith) (omega arith) (omega arith)))
+    (table_later t from more _ 2 (24 + 8 * more) (w / 256 / 256 / 256 / 256 / 256 % 256) is start (omega arith) (omega arith) (omega arith) (omega arith)))
+    (table_later t from more _ 3 (32 + 8 * more) (w / 256 / 256 / 256 / 256 % 256) is start (omega arith) (omega arith) (omega arith) (omega arith)))
+    (table_later t from more _ 4 (40 + 8 * more) (w / 256 / 256 / 256 % 256) is start (omega arith) (omega arith) (omega arith) (omega arith)))
+    (table_later t from more _ 5 (48 + 8 * more) (w / 256 / 256 % 256) is start (omega arith) (omega arith) (omega arith) (omega arith)))
+    (table_later t from more _ 6 (56 + 8 * more) (w / 256 % 256) is start (omega arith) (omega arith) (omega arith) (omega arith)))
+    (table_later t from more _ 7 (64 + 8 * more) (w % 256) is start (omega arith) (omega arith) (omega arith) (omega arith))
     ∙ sym (bits_eight (8 * more) w _ _ _ _ _ _ _ refl refl refl refl refl refl refl)
 
 -- sixteen bytes at once
 pub crc_sixteen : (r x y : ℕ) (xs ys : List ℕ) → length xs ≡ 8 → length ys ≡ 8 → ((k : ℕ) → slice_index xs k < 256) → ((k : ℕ) → slice_index ys k < 256) →
-    x ≡ bit_xor (little_from 0 8 xs) r → y ≡ little_from 0 8 ys → bit_xor (crc_bits 128 x) (crc_bits 64 y) ≡ crc r (xs ++ ys)
+    x ≡ bit_xor (little_from 0 8 xs) r → y ≡ little_from 0 8 ys → bit_xor (crc_bits 64 y) (crc_bits 128 x) ≡ crc r (xs ++ ys)
 crc_sixteen r x y xs ys long_xs long_ys small_xs small_ys ex ey =
     let first : crc r xs ≡ crc_bits 64 x = crc_eight r x xs long_xs small_xs ex in
     let second : crc (crc r xs) ys ≡ crc_bits 64 (bit_xor y (crc r xs)) =
     crc_eight (crc r xs) (bit_xor y (crc r xs)) ys long_ys small_ys (ap (λ (n : ℕ). bit_xor n (crc r xs)) ey) in
     sym (crc_append r xs ys ∙ second ∙ bits_linear 64 y (crc r xs)
-    ∙ xor_comm (crc_bits 64 y) (crc_bits 64 (crc r xs))
-    ∙ ap (λ (n : ℕ). bit_xor n (crc_bits 64 y)) (ap (crc_bits 64) first ∙ sym (bits_more 64 64 x)))
+    ∙ ap (λ (n : ℕ). bit_xor (crc_bits 64 y) n) (ap (crc_bits 64) first ∙ sym (bits_more 64 64 x)))
 
 -- the register after the first of the bytes that are left
 pub crc_front : (v u : ℕ) (front rest all : List ℕ) → front ++ rest ≡ all → u ≡ crc v front → crc u rest ≡ crc v all

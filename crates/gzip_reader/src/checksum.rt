@@ -49,13 +49,13 @@ impl CrcTables {
         requires { length bytes.now ≡ 16 }
         ensures { result ≡ crc register bytes.now }
     {
-        let first = LittleEndian::read_u64(&bytes[..8]) ^ register as u64;
-        let second = LittleEndian::read_u64(&bytes[8..]);
-        self.eight(first, 2048) ^ self.eight(second, 0)
+        // What waits for the register is looked up last: so the steps overlap.
+        let second = self.eight(LittleEndian::read_u64(&bytes[8..]), 0);
+        let first = self.eight(LittleEndian::read_u64(&bytes[..8]) ^ register as u64, 2048);
+        second ^ first
     }
 
-    /// Returns the register after eight bytes and none more, or eight zero bytes more, where the tables of the last of them
-    /// begin.
+    /// Returns the register after this word and so many zero bytes more as the tables tell that begin here.
     #[inline(always)]
     fn eight(&self, word: u64, from: usize) -> u32
         requires { from ≤ 2048 }
@@ -69,14 +69,14 @@ impl CrcTables {
         let e = d / 256;
         let f = e / 256;
         let g = f / 256;
-        table[from + 1792 + (word % 256) as usize]
-            ^ (table[from + 1536 + (a % 256) as usize]
-                ^ (table[from + 1280 + (b % 256) as usize]
-                    ^ (table[from + 1024 + (c % 256) as usize]
-                        ^ (table[from + 768 + (d % 256) as usize]
-                            ^ (table[from + 512 + (e % 256) as usize]
-                                ^ (table[from + 256 + (f % 256) as usize]
-                                    ^ table[from + g as usize]))))))
+        table[from + g as usize]
+            ^ table[from + 256 + (f % 256) as usize]
+            ^ table[from + 512 + (e % 256) as usize]
+            ^ table[from + 768 + (d % 256) as usize]
+            ^ table[from + 1024 + (c % 256) as usize]
+            ^ table[from + 1280 + (b % 256) as usize]
+            ^ table[from + 1536 + (a % 256) as usize]
+            ^ table[from + 1792 + (word % 256) as usize]
     }
 
     /// Returns the register after this byte.
