@@ -1,7 +1,7 @@
 //! What unpacks a file.
 
-ghost use Rattle.std.specs.Prelude.{◌≡◌, IfOk, OnErr, box_value};
-ghost use Rattle.std.specs.Io.KnownBytes.{prepend_known};
+ghost use Rattle.std.specs.Prelude.{◌≡◌, ◌≤◌, IfOk, OnErr, box_value, length, take};
+ghost use Rattle.std.specs.Io.KnownBytes.{Consumes, prepend_known};
 ghost use Rattle.mrt_frame.specs.Devices.{counted_device};
 ghost use Rattle.gzip_reader.specs.Gives.{left_known};
 ghost use Rattle.gzip_reader.specs.Readers.{gunzip_source};
@@ -91,6 +91,18 @@ fn read_gzip<D: Read>(gunzip: &mut Gunzip<Counted<Place<D>>>, buf: &mut [u8]) ->
     }
 }
 
+#[inline(always)]
+fn take_gzip<D: Read>(gunzip: &mut Gunzip<Counted<Place<D>>>, buf: &mut [u8]) -> usize
+    ensures bound { result ≤ length buf.new }
+    ensures bytes { Consumes (left_known gunzip.old (place_remaining D.remaining (counted_device (gunzip_source gunzip.old))))
+        (left_known gunzip.new (place_remaining D.remaining (counted_device (gunzip_source gunzip.new)))) (take result buf.new) }
+{
+    gunzip.source().gives_its_bytes();
+    let count = gunzip.take_held(buf);
+    gunzip.source().gives_its_bytes();
+    count
+}
+
 fn read_bzip2<D: Read, T: Team>(
     bunzip: &mut Bunzip<Counted<Place<D>>>,
     team: &T,
@@ -175,6 +187,18 @@ impl<D: Read> Decoder<D> {
         }
     }
 
+    /// Gives bytes that a gzip file's decoder holds, as many as it has and as there is room for. Nothing is read.
+    #[inline(always)]
+    fn take_held(&mut self, buf: &mut [u8]) -> usize
+        ensures bound { result ≤ length buf.new }
+        ensures bytes { Consumes (decoder_remaining D.remaining self.old) (decoder_remaining D.remaining self.new) (take result buf.new) }
+    {
+        match self {
+            Decoder::Gzip(gunzip) => take_gzip(gunzip, buf),
+            _ => 0,
+        }
+    }
+
     /// Reads some bytes. The team decodes blocks of bzip2.
     pub(crate) fn read_by<T: Team>(&mut self, team: &T, buf: &mut [u8]) -> Outcome
         requires { T.is_ready team.now }
@@ -190,7 +214,17 @@ impl<D: Read> Decoder<D> {
     }
 }
 
-/// The same of one in its box, and how many bytes were then read of the device.
+/// Gives bytes that the decoder in this box holds, as many as it has and as there is room for. Nothing is read.
+#[inline(always)]
+pub(crate) fn take_boxed<D: Read>(decoder: &mut Box<Decoder<D>>, buf: &mut [u8]) -> usize
+    ensures bound { result ≤ length buf.new }
+    ensures bytes { Consumes (decoder_remaining D.remaining (box_value decoder.old))
+        (decoder_remaining D.remaining (box_value decoder.new)) (take result buf.new) }
+{
+    decoder.take_held(buf)
+}
+
+/// Reads some bytes by the decoder in this box, and how many bytes were then read of the device.
 pub(crate) fn read_boxed<D: Read, T: Team>(
     decoder: &mut Box<Decoder<D>>,
     team: &T,

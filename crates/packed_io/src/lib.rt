@@ -3,8 +3,9 @@
 //!
 //! The ten bytes are read in as many reads as the device takes, and what was read before a failure stays. Then there
 //! is memory for a block of 64 KiB, or for what unpacks the file, until its end. It is allocated before the device is
-//! moved there, so that a read that finds no memory may be tried again. The device is dropped at its end: whoever writes
-//! into a pipe behind that of a packed file is then told that nobody reads.
+//! moved there, so that a read that finds no memory may be tried again. The device is dropped at its end: whoever
+//! writes into a pipe behind that of a packed file is then told that nobody reads. A packed file that failed keeps its
+//! memory and its device.
 //!
 //! `Unpacked::fault` tells what is wrong with a packed file, once its end or a failure was returned: where it is, its
 //! cause in words, and its effect. A fault that ends the data comes with `Ok(0)`, after all that was unpacked before;
@@ -16,8 +17,8 @@
 //! file and the list of its pieces stand behind a lock each, and a lock that another thread has is passed over, so that
 //! no thread waits for another one without an end. Threads may be started or not: only time depends on it.
 //!
-//! What a file will give is told to the contracts if it is read as it is: the first bytes that weren't given yet, and
-//! then what the device tells. Of a packed one nothing is told.
+//! What a file will give is told to the contracts where its device tells its bytes: of a file that is read as it is the
+//! first bytes that weren't given yet, and then the device's; of a packed one what all of them unpack to.
 #![tactic(auto)]
 
 mod decoder;

@@ -1,13 +1,13 @@
 //! A reader of files that may be packed.
 
-ghost use Rattle.std.specs.Prelude.{◌≡◌, ◌<◌, ◌≤◌, Some, length, take, true, IfOk, IsErr, IsOk, OnErr, OnOk};
+ghost use Rattle.std.specs.Prelude.{◌≡◌, ◌<◌, ◌≤◌, ◌⊎◌, Some, length, take, true, IfOk, IsErr, IsOk, OnErr, OnOk};
 ghost use Rattle.std.specs.Io.{ReadsAtMost};
 ghost use Rattle.std.specs.Io.KnownBytes.{Consumes, Keeps, ReadConsumes};
 ghost use Rattle.packed_io.specs.Formats.{told_of};
 ghost use Rattle.packed_io.specs.Faults.{EndsTheData, FailsReading};
 ghost use Rattle.packed_io.specs.Stages.{IsWhole, Opens, StageUnpacks, is_told, known_bytes};
 
-use crate::decoder::{Decoder, Outcome, read_boxed};
+use crate::decoder::{Decoder, Outcome, read_boxed, take_boxed};
 use crate::fault::PackedFault;
 use crate::format::{Format, format_of};
 use crate::head::{Head, HeadFirst, TELLING};
@@ -88,8 +88,9 @@ impl<D: Read> Waiting<D> {
 }
 
 /// A reader of a file that may be packed. Its first ten bytes tell whether it is one of gzip or of bzip2, whose data is
-/// then given unpacked; any other file is given as it is, in blocks of 64 KiB. Memory for it exists only while it is
-/// read, and so long its device is kept.
+/// then given unpacked; any other file is given as it is, in blocks of 64 KiB. Memory for it is taken once its first
+/// bytes were read, and given back with its device at its end. A packed file that failed keeps both until it is
+/// dropped.
 #[derive(Drop)]
 pub struct Unpacked<D> {
     alloc: Global,
@@ -222,19 +223,21 @@ impl<D: Read> Unpacked<D> {
 }
 
 impl<D: Read + Drop> Unpacked<D> {
-    ghost use Rattle.packed_io.specs.Reading.{HasEnded, HasFailed, IsPacked, unpacked_remaining};
+    ghost use Rattle.packed_io.specs.Reading.{HasEnded, HasFailed, IsPacked, fault_told, format_told, unpacked_remaining};
 
-    /// Gives bytes of a plain file's block, as many as it has left and as there is room for. Nothing is read: where
-    /// there are none, `read` goes on. Whoever reads a few bytes at a time asks here first, and clears and copies no
-    /// result with its error.
+    /// Gives bytes of a plain file's block, or those that are unpacked of a gzip file, as many as there are left and as
+    /// there is room for. Nothing is read: where there are none, `read` goes on. Whoever reads a few bytes at a time
+    /// asks here first, and clears and copies no result with its error.
     #[inline(always)]
     pub fn take_held(&mut self, buf: &mut [u8]) -> usize
         ensures bound { result ≤ length buf.new }
         ensures bytes { Consumes (unpacked_remaining D.remaining self.old) (unpacked_remaining D.remaining self.new) (take result buf.new) }
-        ensures packed { IsPacked self.old → (result ≡ 0) × (self.new ≡ self.old) }
+        ensures packed { IsPacked self.old → IsPacked self.new × (format_told self.new ≡ format_told self.old) × (fault_told self.new ≡ fault_told self.old) }
+        ensures over { HasEnded self.old ⊎ HasFailed self.old → (result ≡ 0) × (self.new ≡ self.old) }
     {
         match &mut self.stage {
             Stage::Plain(blocks) => blocks.take_held(buf),
+            Stage::Packed(_, decoder) => take_boxed(decoder, buf),
             _ => 0,
         }
     }
@@ -282,8 +285,8 @@ impl<D: Read + Drop> Read for Unpacked<D> {
 impl<D: Read + Drop> Unpacked<D> {
     ghost use Rattle.packed_io.specs.Reading.{unpacked_remaining};
 
-    /// What is known of the bytes to come: all of a file that is read as it is, and what the bytes of a packed one unpack
-    /// to.
+    /// What is known of the bytes to come: all of a file that is read as it is, and what the bytes of a packed one
+    /// unpack to.
     pub fn gives_its_bytes(&self)
         ensures { ⟦<Unpacked<D> as Read>⟧.remaining self.now ≡ unpacked_remaining D.remaining self.now }
     {}

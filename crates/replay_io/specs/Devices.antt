@@ -1,6 +1,6 @@
 -- What the program's own readers give and its own writer holds.
 use Rattle.std.specs.Prelude.{⊤, ℕ, List, Option, None}
-use Rattle.packed_io.specs.Reading.{IsPacked, unpacked_remaining}
+use Rattle.packed_io.specs.Reading.{unpacked_remaining}
 use Rattle.run_io.specs.Headers.{headed_contents}
 use Rattle.replay_io.specs.declared.input.Contents.{Contents}
 use Rattle.replay_io.specs.declared.input.Contents.TheVariants.{Here, Ahead}
@@ -12,10 +12,10 @@ abbrev pub contents_remaining : {D : Type 0} → (D → Option (List ℕ)) → C
 contents_remaining remaining (Here unpacked) = unpacked_remaining remaining unpacked
 contents_remaining remaining (Ahead form reader) = None
 
--- its first bytes were those of a packed file, or other threads unpack it
-abbrev pub AreContentsPacked : {D : Type 0} → Contents D → Type 0
-AreContentsPacked (Here unpacked) = IsPacked unpacked
-AreContentsPacked (Ahead form reader) = ⊤
+-- other threads may unpack it
+abbrev pub AreContentsAhead : {D : Type 0} → Contents D → Type 0
+AreContentsAhead (Here unpacked) = ⊥
+AreContentsAhead (Ahead form reader) = ⊤
 
 abbrev pub dump_contents : {D : Type 0} → Dump D → Contents D
 dump_contents dump = dump.contents

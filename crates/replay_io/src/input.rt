@@ -4,7 +4,7 @@ ghost use Rattle.std.specs.Prelude.{◌≡◌, ◌≤◌, length, take};
 ghost use Rattle.std.specs.Io.{ReadsAtMost};
 ghost use Rattle.std.specs.Io.KnownBytes.{Consumes, ReadConsumes};
 ghost use Rattle.packed_io.specs.Formats.{told_of};
-ghost use Rattle.replay_io.specs.Devices.{AreContentsPacked, contents_remaining, dump_contents, dump_remaining};
+ghost use Rattle.replay_io.specs.Devices.{AreContentsAhead, contents_remaining, dump_contents, dump_remaining};
 
 use crate::counts::Counts;
 use crate::files::{Device, Files};
@@ -104,12 +104,13 @@ impl<D: Read + Drop> Contents<'_, D> {
         }
     }
 
-    /// Gives bytes of a plain file's block, without reading: none where it has none, or where the file is packed.
+    /// Gives bytes of a plain file's block, or those that are unpacked of a gzip file, without reading: none where there
+    /// are none, or where other threads may unpack it.
     #[inline(always)]
     fn take_held(&mut self, buf: &mut [u8]) -> usize
         ensures bound { result ≤ length buf.new }
         ensures bytes { Consumes (contents_remaining D.remaining self.old) (contents_remaining D.remaining self.new) (take result buf.new) }
-        ensures packed { AreContentsPacked self.old → (result ≡ 0) × (self.new ≡ self.old) }
+        ensures ahead { AreContentsAhead self.old → (result ≡ 0) × (self.new ≡ self.old) }
     {
         match self {
             Contents::Here(unpacked) => unpacked.take_held(buf),
@@ -333,7 +334,7 @@ impl<D: Read + Drop> Read for Dump<'_, D> {
     ghost remaining = { dump_remaining D.remaining };
 
     fn read(&mut self, buf: &mut [u8]) -> io::Result<usize> {
-        // Most reads are of a few bytes that a plain file's block has.
+        // Most reads are of a few bytes that a plain file's block has, or that are unpacked.
         let count = self.contents.take_held(buf);
         if count > 0 {
             self.note(&buf[..count]);
