@@ -6,6 +6,8 @@ pub mod FieldLaws
 pub mod TableLaws
 pub mod MakingLaws
 pub mod LookUpLaws
+pub mod FilledLaws
+pub mod NextBitsLaws
 pub mod CopyLaws
 pub mod ReadingLaws
 pub mod ItemLaws

@@ -12,6 +12,7 @@ pub mod Members
 pub mod Readers
 pub mod Symbols
 pub mod Tables
+pub mod Filled
 pub mod Made
 pub mod Readings
 pub mod Taken
