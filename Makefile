@@ -111,6 +111,7 @@ scripts: $(BINARY)
 	tests/shares.sh '$(BINARY)'
 	tests/packed.sh '$(BINARY)'
 	python3 tests/history.py '$(BINARY)'
+	python3 tests/attributes.py '$(BINARY)'
 	tests/build.sh
 	python3 tools/model_index.py --check
 	python3 tools/options.py --check

@@ -13,6 +13,7 @@ _bgp_replay() {
     --states) mapfile -t COMPREPLY < <(compgen -W 'recorded established' -- "$word"); return;;
     --rib) mapfile -t COMPREPLY < <(compgen -W 'add replace' -- "$word"); return;;
     --addresses) mapfile -t COMPREPLY < <(compgen -W 'full short' -- "$word"); return;;
+    --attributes) mapfile -t COMPREPLY < <(compgen -W 'communities extended large originator clusters otc all' -- "$word"); return;;
     --workers) mapfile -t COMPREPLY < <(compgen -W '1 2 4 8 16 32 64' -- "$word"); return;;
     --ring) mapfile -t COMPREPLY < <(compgen -W '1 64 1024 65536' -- "$word"); return;;
     --address|--prefix|--peer|--peers|--until|--since) return;;
@@ -20,7 +21,7 @@ _bgp_replay() {
   if [[ -z $command ]]; then
     mapfile -t COMPREPLY < <(compgen -W "$commands help --help --version" -- "$word")
   elif [[ $word == -* ]]; then
-    local options='--files-from --family --prefix --prefixes --peer --peers --until --states --rib --addresses --header --summary --progress --quiet --workers --ring --help --version'
+    local options='--files-from --family --prefix --prefixes --peer --peers --until --states --rib --addresses --attributes --header --summary --progress --quiet --workers --ring --help --version'
     case $command in match) options="--address $options";; esac
     case $command in churn|history) options="--since $options";; esac
     case $command in history) options="--same $options";; esac

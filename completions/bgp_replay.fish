@@ -24,6 +24,7 @@ complete -c bgp_replay -n '__fish_seen_subcommand_from churn history' -l since -
 complete -c bgp_replay -n $some -l states -x -a 'recorded established' -d 'say which state changes end a peer\'s routes'
 complete -c bgp_replay -n $some -l rib -x -a 'add replace' -d 'say what a RIB dump does to the routes before it'
 complete -c bgp_replay -n $some -l addresses -x -a 'full short' -d 'say how IPv6 addresses are printed, those of peers and of next hops alike'
+complete -c bgp_replay -n $some -l attributes -x -a 'communities extended large originator clusters otc all' -d 'keep these further attributes of routes'
 complete -c bgp_replay -n '__fish_seen_subcommand_from history' -l same -d 'list announcements of the very route that was there, too'
 complete -c bgp_replay -n $some -l header -d 'print the columns\' names first'
 complete -c bgp_replay -n $some -l summary -d 'say on standard error what was read, in lines of a key and a value'

@@ -29,6 +29,7 @@ _bgp_replay() {
         '--states[say which state changes end a peer'\''s routes]:RULE:(recorded established)'
         '--rib[say what a RIB dump does to the routes before it]:RULE:(add replace)'
         '--addresses[say how IPv6 addresses are printed, those of peers and of next hops alike]:FORM:(full short)'
+        '*--attributes[keep these further attributes of routes]:LIST:(communities extended large originator clusters otc all)'
         '--header[print the columns'\'' names first]'
         '--summary[say on standard error what was read, in lines of a key and a value]'
         '--progress[show on standard error how far the reading is]'

@@ -76,8 +76,9 @@ offers() { local wanted=$1; shift; echo "offered: $(completed "$@")"; [ "$(compl
 check 'bash: a command' offers 'tables ' bgp_replay ta
 check 'bash: all commands' offers '--help --version churn faults help history match origins peers seen tables visibility ' bgp_replay ''
 check 'bash: an option' offers '--workers ' bgp_replay tables --w
-check 'bash: an option of match' offers '--address --addresses ' bgp_replay match --a
-check 'bash: none of match for tables' offers '--addresses ' bgp_replay tables --a
+check 'bash: an option of match' offers '--address --addresses ' bgp_replay match --ad
+check 'bash: none of match for tables' offers '--addresses ' bgp_replay tables --ad
+check 'bash: attributes' offers 'originator otc ' bgp_replay tables --attributes o
 check 'bash: a form' offers 'full short ' bgp_replay tables --addresses ''
 check 'bash: a number' offers '64 ' bgp_replay tables --workers 6
 check 'bash: a file' offers 'examples/sample.mrt ' bgp_replay tables examples/sam

@@ -110,6 +110,7 @@ KINDS = {
     "local_pref": _NUMBER,
     "atomic": _ATOMIC,
     "aggregator": Kind("category", _aggregator),
+    "otc": _NUMBER,
     "peers": PEERS,
     "origins": Kind("category", _asns),
     "first": _TIME,

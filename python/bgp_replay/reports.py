@@ -90,6 +90,7 @@ OPTIONS = {
     "address": ("address", _one(str)),
     "family": ("family", _one(str)),
     "addresses": ("addresses", _one(str)),
+    "attributes": ("attributes", _each(str)),
     "same": ("same", _flag),
     "states": ("states", _one(str)),
     "rib": ("rib", _one(str)),

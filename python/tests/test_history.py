@@ -16,32 +16,33 @@ def session(name):
 
 
 def read(name):
-    """The lines of bgpdump: micros, announces, peer, prefix, path identifier and the route's attributes."""
+    """The lines of bgpdump: micros, announces, peer, prefix, path identifier, and the route's attributes with communities last."""
     for line in session(name).with_suffix(".txt").read_text().splitlines():
         kind, time, what, address, asn, prefix, *rest = line.split("|")
         seconds, _, micros = time.partition(".")
         identifier = int(rest.pop(0)) if kind.endswith("_AP") else 0
         peer = int(asn), ipaddress.ip_address(address).exploded
-        yield int(seconds) * 10**6 + int(micros or 0), what == "A", peer, prefix, identifier, rest[:5] + rest[6:8]
+        yield int(seconds) * 10**6 + int(micros or 0), what == "A", peer, prefix, identifier, rest[:5] + rest[6:8] + rest[5:6]
 
 
-def model(name):
-    """What happened, by docs/FORMATS.md: what, and path of the route after it, or of a withdrawn one."""
+def model(name, field=0, has_communities=False):
+    """What happened, by docs/FORMATS.md: what, and a field of the route after it, or of a withdrawn one: its path, or another."""
     told, tables = list(read(name)), {}
     announced = {(micros, peer, prefix, number) for micros, is_new, peer, prefix, number, _ in told if is_new}
     for micros, is_new, peer, prefix, number, route in told:
+        route = route if has_communities else route[:-1]
         key, before = (peer, prefix, number), tables.get((peer, prefix, number))
         if is_new:
             what, tables[key] = "new" if before is None else "same" if before == route else "changed", route
         elif name == "openbgpd" and (micros, peer, prefix, number) in announced:
             continue  # of one message, whose microsecond no other has: it's not withdrawn
         else:
-            what, route = ("void", [None]) if before is None else ("gone", tables.pop(key))
-        yield micros, *peer, what, prefix, number, route[0]
+            what, route = ("void", [None] * 8) if before is None else ("gone", tables.pop(key))
+        yield micros, *peer, what, prefix, number, route[field]
 
 
-def rows(frame):
-    columns = ["peer_asn", "peer_ip", "what", "prefix", "path_id", "as_path"]
+def rows(frame, field="as_path"):
+    columns = ["peer_asn", "peer_ip", "what", "prefix", "path_id", field]
     texts = frame[columns].astype(object).where(frame[columns].notna(), None)
     return [(time.value // 1000, *row) for time, row in zip(frame["timestamp"], texts.itertuples(index=False, name=None))]
 
@@ -54,6 +55,17 @@ def test_sessions(name):
     assert rows(found) == wanted
     assert set(found["by"]) == {"update"}
     assert rows(bgp_replay.history(session(name))) == [row for row in wanted if row[3] != "same"]
+
+
+@pytest.mark.parametrize("name", SESSIONS)
+def test_communities(name):
+    """Those that bgpdump prints, and `changed` where they alone are other ones."""
+    wanted = [(*row[:-1], row[-1] or None) for row in model(name, field=-1, has_communities=True)]
+    for attributes in "communities", ["otc", "communities"], "all":
+        found = bgp_replay.history(session(name), same=True, attributes=attributes)
+        assert rows(found, "communities") == wanted
+        assert found["communities"].notna().any()
+    assert found["large"].isna().all() and str(found["otc"].dtype) == "UInt32"
 
 
 @pytest.mark.parametrize("name", SESSIONS)

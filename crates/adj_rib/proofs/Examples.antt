@@ -5,7 +5,8 @@ use Rattle.bgp_prefix.specs.Keys.{RouteKey}
 use Rattle.mrt_frame.proofs.Hexadecimal.{hex}
 use Rattle.mrt_frame.specs.declared.fault.Fault.TheVariants.{BadAttribute}
 use Rattle.mrt_frame.specs.Fields.{items_after}
-use Rattle.bgp_update.specs.Families.{FamilyOf, ipv4, ipv6}
+use Rattle.bgp_update.specs.Families.{FamilyOf, ipv4, ipv6, rules_of}
+use Rattle.bgp_update.specs.KeptAttributes.{no_attributes}
 use Rattle.bgp_update.specs.declared.width.Width.TheVariants.{Four}
 use Rattle.bgp_update.specs.declared.path.SegmentKind.TheVariants.{AsSequence}
 use Rattle.bgp_update.specs.declared.next_hop.NextHop.TheVariants as hop
@@ -40,7 +41,7 @@ abbrev unit_of : ℕ → Payload → ReplayUnit
 unit_of seconds payload = record { place = somewhere; time = seconds * 1000000; peer = record { asn = 65000; addr = addr.V4 0xC0000201 }; payload = payload }
 
 abbrev message_of : FamilyOf → ℕ → Bool → List ℕ → ReplayUnit
-message_of family seconds add_path bytes = unit_of seconds (Message (hex (codes "FFFFFFFF FFFFFFFF FFFFFFFF FFFFFFFF") ++ bytes) Four add_path family)
+message_of family seconds add_path bytes = unit_of seconds (Message (hex (codes "FFFFFFFF FFFFFFFF FFFFFFFF FFFFFFFF") ++ bytes) Four add_path (rules_of family no_attributes))
 
 abbrev message : ℕ → Bool → List ℕ → ReplayUnit
 message = message_of ipv4
@@ -50,7 +51,7 @@ abbrev plain_attributes : List ℕ
 plain_attributes = hex (codes "40010100 4002060201 0000FDE8 400304 C0000201")
 
 abbrev plain_route : Route
-plain_route = record { origin = Some Igp; path = Some (record { kind = AsSequence; numbers = 65000 ∷ [] } ∷ []); next_hop = Some (hop.V4 0xC0000201); med = None; local_pref = None; atomic = false; aggregator = None }
+plain_route = record { origin = Some Igp; path = Some (record { kind = AsSequence; numbers = 65000 ∷ [] } ∷ []); next_hop = Some (hop.V4 0xC0000201); med = None; local_pref = None; atomic = false; aggregator = None; kept = [] }
 
 -- an UPDATE of second 1 that announces 10.0.0.0/8
 abbrev announcement : ReplayUnit
@@ -127,7 +128,7 @@ examples : record {
   reached : session_of (announcement ∷ reaching ∷ []) ≡ record { up = true; established = true; table = (ten, record plain_route { next_hop = Some (hop.V4 0xC0000209) }) ∷ (key 0x0C000000 0, plain_route) ∷ []; churn = churn_with (2 ∷ 1 ∷ 0 ∷ 0 ∷ 1 ∷ 0 ∷ 0 ∷ 0 ∷ []) 1 2; arrivals = so_many 2; faults = []; spent = false };
   by_two_paths : session_of (two_paths ∷ announcement ∷ []) ≡ record { up = true; established = true; table = (ten, plain_route) ∷ (key 0x0A000000 3, plain_route) ∷ (key 0x0A000000 7, plain_route) ∷ []; churn = churn_with (3 ∷ 0 ∷ 0 ∷ 0 ∷ 0 ∷ 0 ∷ 0 ∷ 0 ∷ []) 1 1; arrivals = so_many 2; faults = []; spent = false };
   damaged_unit : session_of (damaged ∷ []) ≡ record { up = true; established = true; table = []; churn = churn_with (0 ∷ 0 ∷ 0 ∷ 0 ∷ 0 ∷ 0 ∷ 0 ∷ 1 ∷ []) 1 1; arrivals = so_many 1; faults = record { place = somewhere; fault = BadAttribute 1 } ∷ []; spent = false };
-  entry_of_key : session_of (unit_of 3 (Entry (key 0x0A000000 5) plain_attributes ipv4) ∷ announcement ∷ []) ≡ record { up = true; established = true; table = (ten, plain_route) ∷ (key 0x0A000000 5, plain_route) ∷ []; churn = churn_with (2 ∷ 0 ∷ 0 ∷ 0 ∷ 0 ∷ 0 ∷ 0 ∷ 0 ∷ []) 3 1; arrivals = so_many 2; faults = []; spent = false };
+  entry_of_key : session_of (unit_of 3 (Entry (rules_of ipv4 no_attributes) (key 0x0A000000 5) plain_attributes) ∷ announcement ∷ []) ≡ record { up = true; established = true; table = (ten, plain_route) ∷ (key 0x0A000000 5, plain_route) ∷ []; churn = churn_with (2 ∷ 0 ∷ 0 ∷ 0 ∷ 0 ∷ 0 ∷ 0 ∷ 0 ∷ []) 3 1; arrivals = so_many 2; faults = []; spent = false };
   wide_announced_twice : session_of (wide_announcement ∷ wide_announcement ∷ []) ≡ record { up = true; established = true; table = (documentation, record plain_route { next_hop = Some (hop.V6 0x20010DB8000000000000000000000002) }) ∷ []; churn = churn_with (1 ∷ 0 ∷ 1 ∷ 0 ∷ 0 ∷ 0 ∷ 0 ∷ 0 ∷ []) 1 1; arrivals = so_many 2; faults = []; spent = false };
   wide_withdrawn_twice : session_of (wide_announcement ∷ wide_withdrawal ∷ wide_withdrawal ∷ []) ≡ record { up = true; established = true; table = []; churn = churn_with (1 ∷ 0 ∷ 0 ∷ 1 ∷ 1 ∷ 0 ∷ 0 ∷ 0 ∷ []) 1 2; arrivals = so_many 3; faults = []; spent = false };
 }

@@ -141,8 +141,8 @@ module _ (choices : List PrefixChoice) where
     -- what concerns no chosen prefix is no state change
     quiet_state : (payload : Payload) → concerns choices payload ≡ false → state_says says payload ≡ None
     quiet_state (State from to rule) h = absurd cc
-    quiet_state (Message bytes width add_path family) h = refl
-    quiet_state (Entry key attrs family) h = refl
+    quiet_state (Message bytes width add_path rules) h = refl
+    quiet_state (Entry rules key attrs) h = refl
     quiet_state Clear h = absurd cc
 
     abbrev said_in : List ReplayUnit → List Bool
@@ -206,8 +206,8 @@ module _ (choices : List PrefixChoice) where
   quiet_payload : (up : Bool) (payload : Payload) → concerns choices payload ≡ false → kept_steps (reading_steps up (event_in payload)) ≡ []
   unfolding event_in
   quiet_payload up (State from to rule) h = absurd cc
-  quiet_payload up (Message bytes width add_path family) h = quiet_reading up (event_in (Message bytes width add_path family)) (or_parts (is_open choices) (speaks_of choices (event_in (Message bytes width add_path family))) h).1
-  quiet_payload up (Entry key attrs family) h = quiet_entry up key (route_in family Four attrs) h
+  quiet_payload up (Message bytes width add_path rules) h = quiet_reading up (event_in (Message bytes width add_path rules)) (or_parts (is_open choices) (speaks_of choices (event_in (Message bytes width add_path rules))) h).1
+  quiet_payload up (Entry rules key attrs) h = quiet_entry up key (route_in rules Four attrs) h
   quiet_payload up Clear h = absurd cc
 
   pub quiet_unit : (up : Bool) (u : ReplayUnit) → concerns choices u.payload ≡ false → kept_steps (unit_steps up u) ≡ []

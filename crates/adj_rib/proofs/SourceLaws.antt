@@ -174,8 +174,8 @@ module _ (p : RouteKey) (route : Route) where
   kept_by_unit : (up : Bool) (payload : Payload) → NoneEmpties (reading_steps up (event_in payload)) → EndsRoutes payload → ⊥
   unfolding event_in
   kept_by_unit up (State from to rule) h broken = kept_by_state (breaks rule from to) h broken
-  kept_by_unit up (Message bytes width add_path family) h broken = broken
-  kept_by_unit up (Entry key attrs family) h broken = broken
+  kept_by_unit up (Message bytes width add_path rules) h broken = broken
+  kept_by_unit up (Entry rules key attrs) h broken = broken
   kept_by_unit up Clear h broken = h.0 tt
 
   -- a unit after the first ones gave the route, or it stood before them
@@ -214,8 +214,8 @@ emptied_steps : (steps : List Step) (up : Bool) (payload : Payload) → EndsRout
 unfolding event_in
 emptied_steps steps up (State from to rule) broken =
     ap (λ b. table_of (steps ++ cond b (break ∷ []) [])) broken ∙ sym (entries-IsTable (steps ++ break ∷ []) finite.empty (IsTable_break steps)) ∙ no_entries
-emptied_steps steps up (Message bytes width add_path family) broken = absurd broken
-emptied_steps steps up (Entry key attrs family) broken = absurd broken
+emptied_steps steps up (Message bytes width add_path rules) broken = absurd broken
+emptied_steps steps up (Entry rules key attrs) broken = absurd broken
 emptied_steps steps up Clear broken = sym (entries-IsTable (steps ++ clear ∷ []) finite.empty (IsTable_clear steps)) ∙ no_entries
 
 -- what ends routes leaves none

@@ -70,8 +70,8 @@ up_by_last before unit from to h = is_up-push before unit ∙ up_by_read (is_up 
 
 says_alike : (payload : Payload) → IsByRule Recorded payload → state_says established_by payload ≡ state_says up_by payload
 says_alike (State from to rule) h = rw h refl
-says_alike (Message bytes width add_path family) h = refl
-says_alike (Entry key attrs family) h = refl
+says_alike (Message bytes width add_path rules) h = refl
+says_alike (Entry rules key attrs) h = refl
 says_alike Clear h = refl
 
 abbrev said : (StateRule → ℕ → ℕ → Option Bool) → List ReplayUnit → List Bool
@@ -95,8 +95,8 @@ up_from o (u ∷ units) e h =
     let rest : AreByRule Established units = All-tail (λ (unit : ReplayUnit). IsByRule Established unit.payload) u units h in
     elim u.payload as (λ p. IsByRule Established p → unwrap_or (last_or o (cons_option (state_says up_by p) (said up_by units))) true ≡ true) [
       | State from to rule ↦ λ is. rw is (up_from (Some true) units refl rest)
-      | Message bytes width add_path family ↦ λ is. up_from o units e rest
-      | Entry key attrs family ↦ λ is. up_from o units e rest
+      | Message bytes width add_path rules ↦ λ is. up_from o units e rest
+      | Entry rules key attrs ↦ λ is. up_from o units e rest
       | Clear ↦ λ is. up_from o units e rest
     ] (All-head (λ (unit : ReplayUnit). IsByRule Established unit.payload) u units h)
 

@@ -25,8 +25,8 @@ Announces event.Clear key route = ⊥
 -- a state change that is a break by its rule, or a RIB dump's clear
 abbrev pub EndsRoutes : Payload → Type 0
 EndsRoutes (State from to rule) = breaks rule from to ≡ true
-EndsRoutes (Message bytes width add_path family) = ⊥
-EndsRoutes (Entry key attrs family) = ⊥
+EndsRoutes (Message bytes width add_path rules) = ⊥
+EndsRoutes (Entry rules key attrs) = ⊥
 EndsRoutes Clear = ⊤
 
 -- A unit that came while the peer was up announces the key with the route, and no unit after it ends routes.

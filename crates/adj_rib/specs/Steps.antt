@@ -27,8 +27,8 @@ pub data Step : Type 0 where
 -- what a payload says by this, if it is a state change and says anything
 abbrev pub state_says : (StateRule → ℕ → ℕ → Option Bool) → Payload → Option Bool
 state_says says (State from to rule) = says rule from to
-state_says says (Message bytes width add_path family) = None
-state_says says (Entry key attrs family) = None
+state_says says (Message bytes width add_path rules) = None
+state_says says (Entry rules key attrs) = None
 state_says says Clear = None
 
 -- what the last state change says that says anything; true where none does

@@ -21,6 +21,7 @@
 #![tactic(auto)]
 
 ghost use Rattle.std.specs.Prelude.{◌≡◌, ◌≤◌, ◌*◌, map, min, IfOk, IsTrue};
+ghost use Rattle.bgp_update.specs.Families.{rules_of};
 ghost use Rattle.mrt_frame.specs.Devices.{counted_device, counted_failures, counted_flush};
 ghost use Rattle.mrt_replay.specs.Headline.{IsPromised};
 ghost use Rattle.report_request.specs.Requests.{request_of};
@@ -47,11 +48,11 @@ use packed_io::PackedFiles;
 use peer_units::{ChosenPrefixes, PrefixChoice, Reach, Selection};
 use replay_io::{
     Board, Counter, Counts, Device, Dump, Files, Input, Naps, OpenError, Output, Report, Watched,
-    columns, inputs_of, packed_files_of, terminal_width,
+    header_of, inputs_of, packed_files_of, terminal_width,
 };
 use report_request::Request;
 use rib_report::WrittenAddress;
-use std::alloc::Global;
+use std::alloc::{AllocError, Global};
 use std::env::{Env, FillError};
 use std::io::{ErrorKind, Read, Write};
 use std::marker::{Send, Sync};
@@ -184,7 +185,7 @@ fn selection_of<F: Unicast>(alloc: Global, job: &Job<F>) -> Result<Selection<F>,
       share = job.now.share;
       states = job.now.states;
       ribs = job.now.ribs;
-      family = F.family;
+      rules = rules_of F.family job.now.layout.attributes;
     }) }
 {
     let choices = Vec::from_slice(alloc, &job.prefixes)?;
@@ -197,7 +198,8 @@ fn selection_of<F: Unicast>(alloc: Global, job: &Job<F>) -> Result<Selection<F>,
             .of_peers(peers)
             .of_share(job.share)
             .by_states(job.states)
-            .by_ribs(job.ribs),
+            .by_ribs(job.ribs)
+            .keeping(job.layout.attributes),
     )
 }
 
@@ -445,6 +447,15 @@ fn replay_ahead<F: Replayed, R: Threads + Sync>(
     outcome
 }
 
+/// Returns the line of the columns' names, if the job asks for it.
+fn header_of_job<F: Unicast>(alloc: Global, job: &Job<F>) -> Result<String, AllocError> {
+    if job.header {
+        header_of(alloc, &job.request, job.layout.attributes)
+    } else {
+        Ok(String::new(alloc))
+    }
+}
+
 /// Replays the files of a job with threads, and returns the status.
 fn replay_files<F: Replayed>(
     rt: &HostRuntime,
@@ -469,12 +480,10 @@ fn replay_files<F: Replayed>(
         plan: plan_of(job, workers),
         watched,
     };
-    let header = if job.header {
-        columns(&job.request)
-    } else {
-        ""
+    let Ok(header) = header_of_job(rt.alloc(), job) else {
+        return without_memory(rt, "the words were read");
     };
-    let mut out = Counted::new(Report::new(rt.stdout(), header, watched.board));
+    let mut out = Counted::new(Report::new(rt.stdout(), header.as_str(), watched.board));
     let outcome = replay_ahead(
         rt,
         threads,

@@ -1,14 +1,14 @@
 -- The keys of MP_REACH_NLRI and MP_UNREACH_NLRI are read behind all attributes, and their fault is then the first one.
-use Rattle.std.proofs.Common.{◌≡◌, ℕ, zero, suc, Bool, true, false, cond, eqb, List, [], ◌∷◌, length, Option, Some, None, Result, Ok, Err, refl, sym, ap, subst, ◌∙◌}
+use Rattle.std.proofs.Common.{◌≡◌, ℕ, zero, suc, Bool, true, false, cond, eqb, List, [], ◌∷◌, length, Option, Some, None, Result, Ok, Err, refl, sym, ap, subst, ◌∙◌, ◌+◌, arith}
 use Rattle.std.specs.Prelude.{option_map}
 use Rattle.std.specs.Option.{option_and_then, option_or}
 use Rattle.std.specs.Result.{result_err}
-use Rattle.std.proofs.lemmas.Bool.{eqb-true}
+use Rattle.std.proofs.lemmas.Bool.{eqb-true, ne_eqb}
 use Rattle.mrt_frame.specs.declared.fault.Fault.{Fault}
 use Rattle.mrt_frame.specs.declared.fault.Fault.TheVariants.{BadPrefix}
 use Rattle.mrt_frame.specs.Fields.{Reading, ◌>>=◌, byte_at, bytes_at, items_within, items_after}
 use Rattle.bgp_prefix.proofs.KeyLaws.{or_none}
-use Rattle.bgp_update.specs.Families.{FamilyOf, KeyForm, form_of}
+use Rattle.bgp_update.specs.Families.{FamilyOf, Rules, KeyForm, form_of}
 use Rattle.bgp_update.specs.declared.attribute_type.AttributeType.{AttributeType}
 use Rattle.bgp_update.specs.declared.attribute_type.AttributeType.TheVariants as types
 use Rattle.bgp_update.specs.declared.width.Width.{Width}
@@ -18,10 +18,11 @@ use Rattle.bgp_update.specs.AttributeTypes.{type_code, type_of}
 use Rattle.bgp_update.specs.Keys.{identifier_len, octets_at, written_key_at, keys_in}
 use Rattle.bgp_update.specs.Multiprotocol.{reach_in, unreach_in, keys_beside, reached_in, unreached_in, reached_keys, unreached_keys}
 use Rattle.bgp_update.specs.Attributes.{WrittenAttribute, has_type, value_fault, fault_of_type, fault_beside, repeat_fault}
+use Rattle.bgp_update.specs.KeptAttributes.{kept_index}
 use Rattle.bgp_update.specs.Values.{value_index, head_fault, head_fault_of_type, head_fault_beside, keys_fault}
 use Rattle.bgp_update.proofs.Counts.{err_of_mapped}
 use Rattle.bgp_update.proofs.TypeLaws.{type_again, value_index_decides, equal_value_indices}
-use Rattle.bgp_update.proofs.FirstTaken.{head_beside}
+use Rattle.bgp_update.proofs.FirstTaken.{head_beside, no_type}
 
 abbrev Values : Type 0
 Values = AttributeType → Option (List ℕ)
@@ -93,26 +94,26 @@ head_first : {A B : Type 0} (r : Result A Fault) (f : A → Result B Fault) → 
 head_first (Ok x) f = refl
 head_first (Err fault) f = refl
 
-value_parts : (family : FamilyOf) (context : AttributeContext) (width : Width) (t : AttributeType) (value : List ℕ) → value_fault family context width t value ≡ option_or (head_fault family context width t value) (first_keys family context t None value)
+value_parts : (rules : Rules) (context : AttributeContext) (width : Width) (t : AttributeType) (value : List ℕ) → value_fault rules context width t value ≡ option_or (head_fault rules context width t value) (first_keys rules.family context t None value)
 unfolding head_fault value_fault
-value_parts family (Message add_path) width types.MpReachNlri value = head_first (reach_in family value) _
-value_parts family (Message add_path) width types.MpUnreachNlri value = head_first (unreach_in family value) _
-value_parts family (Message add_path) width t value = sym (or_none (value_fault family (Message add_path) width t value))
-value_parts family RibEntry width types.MpReachNlri value = sym (or_none (value_fault family RibEntry width types.MpReachNlri value))
-value_parts family RibEntry width t value = sym (or_none (value_fault family RibEntry width t value))
+value_parts rules (Message add_path) width types.MpReachNlri value = head_first (reach_in rules.family value) _
+value_parts rules (Message add_path) width types.MpUnreachNlri value = head_first (unreach_in rules.family value) _
+value_parts rules (Message add_path) width t value = sym (or_none (value_fault rules (Message add_path) width t value))
+value_parts rules RibEntry width types.MpReachNlri value = sym (or_none (value_fault rules RibEntry width types.MpReachNlri value))
+value_parts rules RibEntry width t value = sym (or_none (value_fault rules RibEntry width t value))
 
-pub beside_parts : (family : FamilyOf) (context : AttributeContext) (width : Width) (value_at : Values) (a : WrittenAttribute) → fault_beside family context width value_at a ≡ option_or (head_fault_beside family context width value_at a) (added_keys family context value_at a)
-beside_parts family context width value_at a = by_type (type_of a.code)
+pub beside_parts : (rules : Rules) (context : AttributeContext) (width : Width) (value_at : Values) (a : WrittenAttribute) → fault_beside rules context width value_at a ≡ option_or (head_fault_beside rules context width value_at a) (added_keys rules.family context value_at a)
+beside_parts rules context width value_at a = by_type (type_of a.code)
   where
-    again : (c : AttributeContext) (t : AttributeType) (first : List ℕ) → repeat_fault c t ≡ option_or (repeat_fault c t) (first_keys family c t (Some first) a.value)
+    again : (c : AttributeContext) (t : AttributeType) (first : List ℕ) → repeat_fault c t ≡ option_or (repeat_fault c t) (first_keys rules.family c t (Some first) a.value)
     again RibEntry t first = sym (or_none (repeat_fault RibEntry t))
     again (Message add_path) t first = sym (or_none (repeat_fault (Message add_path) t))
 
-    by_value : (t : AttributeType) (o : Option (List ℕ)) → fault_of_type family context width t o a.value ≡ option_or (head_fault_of_type family context width t o a.value) (first_keys family context t o a.value)
-    by_value t None = value_parts family context width t a.value
+    by_value : (t : AttributeType) (o : Option (List ℕ)) → fault_of_type rules context width t o a.value ≡ option_or (head_fault_of_type rules context width t o a.value) (first_keys rules.family context t o a.value)
+    by_value t None = value_parts rules context width t a.value
     by_value t (Some first) = again context t first
 
-    by_type : (o : Option AttributeType) → option_and_then (λ t. fault_of_type family context width t (value_at t) a.value) o ≡ option_or (option_and_then (λ t. head_fault_of_type family context width t (value_at t) a.value) o) (option_and_then (λ t. first_keys family context t (value_at t) a.value) o)
+    by_type : (o : Option AttributeType) → option_and_then (λ t. fault_of_type rules context width t (value_at t) a.value) o ≡ option_or (option_and_then (λ t. head_fault_of_type rules context width t (value_at t) a.value) o) (option_and_then (λ t. first_keys rules.family context t (value_at t) a.value) o)
     by_type None = refl
     by_type (Some t) = by_value t (value_at t)
 
@@ -147,7 +148,7 @@ moved old old' added added' new new' o f n h = subst (λ x. KeysStep x added new
 abbrev pub later_values : Values → WrittenAttribute → Values
 later_values value_at a t = option_or (value_at t) (cond (has_type t a) (Some a.value) None)
 
-module _ (family : FamilyOf) (add_path : Bool) (width : Width) (value_at : Values) (a : WrittenAttribute) (fine : head_fault_beside family (Message add_path) width value_at a ≡ None) where
+module _ (rules : Rules) (add_path : Bool) (width : Width) (value_at : Values) (a : WrittenAttribute) (fine : head_fault_beside rules (Message add_path) width value_at a ≡ None) where
   abbrev message : AttributeContext
   message = Message add_path
 
@@ -155,20 +156,20 @@ module _ (family : FamilyOf) (add_path : Bool) (width : Width) (value_at : Value
   later = later_values value_at a
 
   abbrev unreached : Option (List ℕ) → Option Fault
-  unreached o = result_err (unreached_keys family add_path o)
+  unreached o = result_err (unreached_keys rules.family add_path o)
 
   abbrev reached : Option (List ℕ) → Option Fault
-  reached o = result_err (reached_keys family add_path o)
+  reached o = result_err (reached_keys rules.family add_path o)
 
-  unreached_is : (o : Option (List ℕ)) → unreached o ≡ option_and_then (λ value. result_err (unreached_in family add_path value)) o
+  unreached_is : (o : Option (List ℕ)) → unreached o ≡ option_and_then (λ value. result_err (unreached_in rules.family add_path value)) o
   unfolding unreached_keys
   unreached_is None = refl
-  unreached_is (Some value) = err_of_mapped (unreached_in family add_path value) _
+  unreached_is (Some value) = err_of_mapped (unreached_in rules.family add_path value) _
 
-  reached_is : (o : Option (List ℕ)) → reached o ≡ option_and_then (λ value. result_err (reached_in family add_path value)) o
+  reached_is : (o : Option (List ℕ)) → reached o ≡ option_and_then (λ value. result_err (reached_in rules.family add_path value)) o
   unfolding reached_keys
   reached_is None = refl
-  reached_is (Some value) = err_of_mapped (reached_in family add_path value) _
+  reached_is (Some value) = err_of_mapped (reached_in rules.family add_path value) _
 
   -- an attribute of another type, or that isn't looked at, leaves a value as it is
   other_value : (u : AttributeType) → has_type u a ≡ false → later u ≡ value_at u
@@ -176,16 +177,6 @@ module _ (family : FamilyOf) (add_path : Bool) (width : Width) (value_at : Value
 
   first_value : (u : AttributeType) → value_at u ≡ None → has_type u a ≡ true → later u ≡ Some a.value
   first_value u none e = λ i. option_or (none i) (cond (e i) (Some a.value) None)
-
-  no_type : (u : AttributeType) → type_of a.code ≡ None → has_type u a ≡ false
-  no_type u e = by_test (eqb a.code (type_code u)) refl
-    where
-      by_test : (b : Bool) → eqb a.code (type_code u) ≡ b → b ≡ false
-      by_test false h = refl
-      by_test true h =
-          let none : type_of (type_code u) ≡ None = ap type_of (sym (eqb-true a.code (type_code u) h)) ∙ e in
-          let some = type_again u in
-          absurd cc
 
   -- a repeat leaves all values as they are
   again_value : (t u : AttributeType) (first : List ℕ) → type_of a.code ≡ Some t → value_at t ≡ Some first → later u ≡ value_at u
@@ -198,38 +189,42 @@ module _ (family : FamilyOf) (add_path : Bool) (width : Width) (value_at : Value
           ap (λ (o : Option (List ℕ)). option_or o (cond (has_type u a) (Some a.value) None)) own ∙ sym own
 
   abbrev Goal : Type 0
-  Goal = KeysStep (keys_fault family message value_at) (added_keys family message value_at a) (keys_fault family message later)
+  Goal = KeysStep (keys_fault rules.family message value_at) (added_keys rules.family message value_at a) (keys_fault rules.family message later)
 
   -- the keys of an attribute of a type
-  adds : (t : AttributeType) (o : Option (List ℕ)) → type_of a.code ≡ Some t → value_at t ≡ o → added_keys family message value_at a ≡ first_keys family message t o a.value
-  adds t o e h = rw e (ap (λ (x : Option (List ℕ)). first_keys family message t x a.value) h)
+  adds : (t : AttributeType) (o : Option (List ℕ)) → type_of a.code ≡ Some t → value_at t ≡ o → added_keys rules.family message value_at a ≡ first_keys rules.family message t o a.value
+  adds t o e h = rw e (ap (λ (x : Option (List ℕ)). first_keys rules.family message t x a.value) h)
 
   -- neither value changes
-  same : added_keys family message value_at a ≡ None → later types.MpUnreachNlri ≡ value_at types.MpUnreachNlri → later types.MpReachNlri ≡ value_at types.MpReachNlri → Goal
-  same f u r = moved _ _ _ _ _ _ refl f (λ i. option_or (unreached (u i)) (reached (r i))) (no_keys (keys_fault family message value_at))
+  same : added_keys rules.family message value_at a ≡ None → later types.MpUnreachNlri ≡ value_at types.MpUnreachNlri → later types.MpReachNlri ≡ value_at types.MpReachNlri → Goal
+  same f u r = moved _ _ _ _ _ _ refl f (λ i. option_or (unreached (u i)) (reached (r i))) (no_keys (keys_fault rules.family message value_at))
 
   first_of : (t : AttributeType) → type_of a.code ≡ Some t → value_at t ≡ None → Goal
   unfolding head_fault
   first_of types.MpUnreachNlri e none =
-      let head : result_err (unreach_in family a.value) ≡ None = sym (head_beside family message width value_at a types.MpUnreachNlri None e none) ∙ fine in
+      let head : result_err (unreach_in rules.family a.value) ≡ None = sym (head_beside rules message width value_at a types.MpUnreachNlri None e none) ∙ fine in
       let r = other_value types.MpReachNlri (value_index_decides a.code types.MpUnreachNlri types.MpReachNlri e) in
       let u = first_value types.MpUnreachNlri none (value_index_decides a.code types.MpUnreachNlri types.MpUnreachNlri e) in
       moved _ _ _ _ _ _ (λ i. option_or ((ap unreached none ∙ unreached_is None) i) (reached (value_at types.MpReachNlri))) (adds types.MpUnreachNlri None e none)
       (λ i. option_or ((ap unreached u ∙ unreached_is (Some a.value)) i) (reached (r i)))
-      (unreached_steps (result_err (unreached_in family add_path a.value)) (reached (value_at types.MpReachNlri)) (λ fault. fails_behind (unreach_in family a.value) _ BadPrefix fault head (λ field. keys_fail _ field)))
+      (unreached_steps (result_err (unreached_in rules.family add_path a.value)) (reached (value_at types.MpReachNlri)) (λ fault. fails_behind (unreach_in rules.family a.value) _ BadPrefix fault head (λ field. keys_fail _ field)))
   first_of types.MpReachNlri e none =
-      let head : result_err (reach_in family a.value) ≡ None = sym (head_beside family message width value_at a types.MpReachNlri None e none) ∙ fine in
+      let head : result_err (reach_in rules.family a.value) ≡ None = sym (head_beside rules message width value_at a types.MpReachNlri None e none) ∙ fine in
       let u = other_value types.MpUnreachNlri (value_index_decides a.code types.MpReachNlri types.MpUnreachNlri e) in
       let r = first_value types.MpReachNlri none (value_index_decides a.code types.MpReachNlri types.MpReachNlri e) in
-      let keys : (reach : _) → FailsAs BadPrefix _ = λ reach. bind_fails BadPrefix (keys_beside (form_of family add_path) (option_map (λ r. r.1) reach)) _ (keys_fail _ _) (λ keys. tt) in
+      let keys : (reach : _) → FailsAs BadPrefix _ = λ reach. bind_fails BadPrefix (keys_beside (form_of rules.family add_path) (option_map (λ r. r.1) reach)) _ (keys_fail _ _) (λ keys. tt) in
       moved _ _ _ _ _ _ ((λ i. option_or (unreached (value_at types.MpUnreachNlri)) ((ap reached none ∙ reached_is None) i)) ∙ or_none (unreached (value_at types.MpUnreachNlri))) (adds types.MpReachNlri None e none)
       (λ i. option_or (unreached (u i)) ((ap reached r ∙ reached_is (Some a.value)) i))
-      (reached_steps (unreached (value_at types.MpUnreachNlri)) (result_err (reached_in family add_path a.value)) (λ fault. fails_behind (reach_in family a.value) _ BadPrefix fault head keys))
+      (reached_steps (unreached (value_at types.MpUnreachNlri)) (result_err (reached_in rules.family add_path a.value)) (λ fault. fails_behind (reach_in rules.family a.value) _ BadPrefix fault head keys))
+  first_of (types.Kept k) e none =
+      same (adds (types.Kept k) None e none)
+      (other_value types.MpUnreachNlri (value_index_decides a.code (types.Kept k) types.MpUnreachNlri e ∙ ne_eqb 7 (11 + kept_index k) (λ h. absurd (omega (arith, h)))))
+      (other_value types.MpReachNlri (value_index_decides a.code (types.Kept k) types.MpReachNlri e ∙ ne_eqb 6 (11 + kept_index k) (λ h. absurd (omega (arith, h)))))
   first_of t e none =
       same (adds t None e none) (other_value types.MpUnreachNlri (value_index_decides a.code t types.MpUnreachNlri e)) (other_value types.MpReachNlri (value_index_decides a.code t types.MpReachNlri e))
 
   by_type : (o : Option AttributeType) → type_of a.code ≡ o → Goal
-  by_type None e = same (rw e refl) (other_value types.MpUnreachNlri (no_type types.MpUnreachNlri e)) (other_value types.MpReachNlri (no_type types.MpReachNlri e))
+  by_type None e = same (rw e refl) (other_value types.MpUnreachNlri (no_type a.code types.MpUnreachNlri e)) (other_value types.MpReachNlri (no_type a.code types.MpReachNlri e))
   by_type (Some t) e = by_value (value_at t) refl
     where
       by_value : (o : Option (List ℕ)) → value_at t ≡ o → Goal
@@ -237,11 +232,11 @@ module _ (family : FamilyOf) (add_path : Bool) (width : Width) (value_at : Value
       by_value (Some first) h = same (adds t (Some first) e h) (again_value t types.MpUnreachNlri first e h) (again_value t types.MpReachNlri first e h)
 
 -- the fault of keys behind an attribute whose head is fine
-pub keys_step : (family : FamilyOf) (context : AttributeContext) (width : Width) (value_at : Values) (a : WrittenAttribute) → head_fault_beside family context width value_at a ≡ None
-    → KeysStep (keys_fault family context value_at) (added_keys family context value_at a) (keys_fault family context (later_values value_at a))
-keys_step family RibEntry width value_at a fine = moved _ _ _ _ _ _ refl (none_of (type_of a.code) None refl) refl (no_keys None)
+pub keys_step : (rules : Rules) (context : AttributeContext) (width : Width) (value_at : Values) (a : WrittenAttribute) → head_fault_beside rules context width value_at a ≡ None
+    → KeysStep (keys_fault rules.family context value_at) (added_keys rules.family context value_at a) (keys_fault rules.family context (later_values value_at a))
+keys_step rules RibEntry width value_at a fine = moved _ _ _ _ _ _ refl (none_of (type_of a.code) None refl) refl (no_keys None)
   where
     none_of : (o : Option AttributeType) (n : Option Fault) → n ≡ None → option_and_then (λ t. n) o ≡ None
     none_of None n e = refl
     none_of (Some t) n e = e
-keys_step family (Message add_path) width value_at a fine = by_type family add_path width value_at a fine (type_of a.code) refl
+keys_step rules (Message add_path) width value_at a fine = by_type rules add_path width value_at a fine (type_of a.code) refl

@@ -9,9 +9,10 @@ use Rattle.std.specs.Result.{result_ok}
 use Rattle.byteorder.specs.Endian.{big_bytes}
 use Rattle.mrt_frame.specs.declared.fault.Fault.{Fault}
 use Rattle.mrt_frame.proofs.FieldLaws.{IsBytes, IsBytes-front}
-use Rattle.bgp_update.specs.Families.{FamilyOf}
+use Rattle.bgp_update.specs.Families.{FamilyOf, Rules}
 use Rattle.bgp_update.specs.declared.attribute_type.AttributeType.{AttributeType}
 use Rattle.bgp_update.specs.declared.attribute_type.AttributeType.TheVariants as types
+use Rattle.bgp_update.specs.declared.kept_attribute.AttributeSet.{AttributeSet}
 use Rattle.bgp_update.specs.declared.width.Width.{Width}
 use Rattle.bgp_update.specs.declared.width.Width.TheVariants.{Two, Four}
 use Rattle.bgp_update.specs.declared.route.Route.{Route}
@@ -141,20 +142,20 @@ path_said Two value_at fine =
     writable_joined (is_stale (option_and_then aggregator_of (value_at types.Aggregator)) (option_and_then as4_aggregator_of (value_at types.As4Aggregator)))
     (option_and_then (path_of_value 2) (value_at types.AsPath)) (option_and_then as4_path_of (value_at types.As4Path)) (path_of Two (value_at types.AsPath) (fine types.AsPath)) (as4_path (value_at types.As4Path) (fine types.As4Path))
 
-pub said_writable : (width : Width) (value_at : AttributeType → Option (List ℕ)) → AreBytes value_at → IsWritable (route_from width value_at).path
+pub said_writable : (asked : AttributeSet) (width : Width) (value_at : AttributeType → Option (List ℕ)) → AreBytes value_at → IsWritable (route_from asked width value_at).path
 unfolding route_from
-said_writable width value_at fine = path_said width value_at fine
+said_writable asked width value_at fine = path_said width value_at fine
 
 -- another next hop leaves the path as it is
-said_path : (own : Bool) (family : FamilyOf) (width : Width) (attributes : List WrittenAttribute) (route : Route) → SaysRoute own family width attributes route → route.path ≡ (route_of width attributes).path
-said_path true family width attributes route h = ap (λ (r : Route). r.path) h
-said_path false family width attributes route h = ap (λ (r : Route). r.path) h.2
+said_path : (own : Bool) (rules : Rules) (width : Width) (attributes : List WrittenAttribute) (route : Route) → SaysRoute own rules width attributes route → route.path ≡ (route_of rules.kept width attributes).path
+said_path true rules width attributes route h = ap (λ (r : Route). r.path) h
+said_path false rules width attributes route h = ap (λ (r : Route). r.path) h.2
 
-pub route_writable : (family : FamilyOf) (width : Width) (bytes : List ℕ) (route : Route) → IsBytes bytes → route_in family width bytes ≡ Ok route → IsWritable route.path
-route_writable family width bytes route fine e =
-    let t = route_takes family width bytes route fine e in
-    let written : IsWritable (route_of width t.attributes).path = said_writable width (λ x. value_of x t.attributes) (λ x. values_fine x t.attributes (subst IsBytes t.spelled fine)) in
-    subst IsWritable (sym (said_path family.own_fields family width t.attributes route t.said)) written
+pub route_writable : (rules : Rules) (width : Width) (bytes : List ℕ) (route : Route) → IsBytes bytes → route_in rules width bytes ≡ Ok route → IsWritable route.path
+route_writable rules width bytes route fine e =
+    let t = route_takes rules width bytes route fine e in
+    let written : IsWritable (route_of rules.kept width t.attributes).path = said_writable rules.kept width (λ x. value_of x t.attributes) (λ x. values_fine x t.attributes (subst IsBytes t.spelled fine)) in
+    subst IsWritable (sym (said_path rules.family.own_fields rules width t.attributes route t.said)) written
 
 attributes_fine : (form : UpdateForm) → IsBytes (update_bytes form) → IsBytes (attributes_bytes form.attributes)
 unfolding update_bytes
@@ -165,7 +166,7 @@ attributes_fine form h =
     (bytes_behind (big_bytes 2 (length form.withdrawn)) (form.withdrawn ++ (big_bytes 2 (length (attributes_bytes form.attributes)) ++ (attributes_bytes form.attributes ++ form.announced))) h)))
 
 -- the same of an UPDATE; another next hop leaves the path as it is
-pub update_writable : (family : FamilyOf) (width : Width) (add_path : Bool) (body : List ℕ) (update : Update) → IsBytes body → update_in family width add_path body ≡ Ok update → IsWritable update.route.path
-update_writable family width add_path body update fine e =
-    let t = update_takes family width add_path body update fine e in
-    subst (λ (r : Route). IsWritable r.path) (sym t.said.route) (said_writable width (λ x. value_of x t.form.attributes) (λ x. values_fine x t.form.attributes (attributes_fine t.form (subst IsBytes t.spelled fine))))
+pub update_writable : (rules : Rules) (width : Width) (add_path : Bool) (body : List ℕ) (update : Update) → IsBytes body → update_in rules width add_path body ≡ Ok update → IsWritable update.route.path
+update_writable rules width add_path body update fine e =
+    let t = update_takes rules width add_path body update fine e in
+    subst (λ (r : Route). IsWritable r.path) (sym t.said.route) (said_writable rules.kept width (λ x. value_of x t.form.attributes) (λ x. values_fine x t.form.attributes (attributes_fine t.form (subst IsBytes t.spelled fine))))

@@ -13,7 +13,8 @@ use Rattle.bgp_update.specs.declared.route.Route.{Route}
 use Rattle.bgp_update.specs.Paths.{PathSegment}
 use Rattle.bgp_update.specs.Segments.{kind_number}
 use Rattle.bgp_update.specs.PathEquality.{list_eq, number_eq, segment_eq}
-use Rattle.bgp_update.specs.Equality.{bool_eq, origin_number, aggregator_eq, hop_eq, route_eq}
+use Rattle.bgp_update.specs.Equality.{bool_eq, origin_number, aggregator_eq, hop_eq, kept_eq, route_eq}
+use Rattle.bgp_update.specs.KeptAttributes.{KeptValue}
 
 -- a test that is true exactly of equal values
 pub record DecidesEquality {A : Type 0} (eq : A → A → Bool) : Type 0 where
@@ -120,10 +121,33 @@ segments_decide = record { same = same_segment; itself = λ x. and_from _ _ (eq-
 paths_decide : DecidesEquality (list_eq segment_eq)
 paths_decide = lists_decide segments_decide
 
+same_value : (x y : KeptValue) → kept_eq x y ≡ true → x ≡ y
+same_value x y h =
+    let parts = and_parts (nat_eq x.code y.code) (list_eq number_eq x.value y.value) h in
+    λ i. record { code = eqb-true x.code y.code parts.0 i; value = same_list numbers_decide x.value y.value parts.1 i }
+
+values_decide : DecidesEquality kept_eq
+values_decide = record { same = same_value; itself = λ x. and_from _ _ (eq-eqb x.code x.code refl) (list_itself numbers_decide x.value) }
+
+kept_decide : DecidesEquality (list_eq kept_eq)
+kept_decide = lists_decide values_decide
+
+-- a test that is true exactly of equal values is any other one
+by_equality : {A : Type 0} {eq : A → A → Bool} → DecidesEquality eq → (b : Bool) (x y : A) → (b ≡ true → x ≡ y) → (x ≡ y → b ≡ true) → b ≡ eq x y
+by_equality {A} {eq} t true x y f g = sym (ap (eq x) (sym (f refl)) ∙ t.itself x)
+by_equality {A} {eq} t false x y f g = elim (eq x y) as (λ c. eq x y ≡ c → false ≡ c) [
+  | true ↦ λ e. g (t.same x y e)
+  | false ↦ λ e. refl
+] refl
+
+pub decides_kept : (b : Bool) (x y : List KeptValue) → (b ≡ true → x ≡ y) → (x ≡ y → b ≡ true) → b ≡ list_eq kept_eq x y
+decides_kept b x y f g = by_equality kept_decide b x y f g
+
 pub same_route : (a b : Route) → route_eq a b ≡ true → a ≡ b
 unfolding route_eq
 same_route a b h =
-    let paths = and_parts _ (option_eq (list_eq segment_eq) a.path b.path) h in
+    let kepts = and_parts _ (list_eq kept_eq a.kept b.kept) h in
+    let paths = and_parts _ (option_eq (list_eq segment_eq) a.path b.path) kepts.0 in
     let aggregators = and_parts _ (option_eq aggregator_eq a.aggregator b.aggregator) paths.0 in
     let atomics = and_parts _ (bool_eq a.atomic b.atomic) aggregators.0 in
     let prefs = and_parts _ (option_eq number_eq a.local_pref b.local_pref) atomics.0 in
@@ -137,20 +161,17 @@ same_route a b h =
       local_pref = same_option numbers_decide a.local_pref b.local_pref prefs.1 i;
       atomic = same_bool a.atomic b.atomic atomics.1 i;
       aggregator = same_option aggregators_decide a.aggregator b.aggregator aggregators.1 i;
+      kept = same_list values_decide a.kept b.kept kepts.1 i;
     }
 
 pub route_itself : (a : Route) → route_eq a a ≡ true
 unfolding route_eq
 route_itself a =
-    and_from _ _ (and_from _ _ (and_from _ _ (and_from _ _ (and_from _ _ (and_from _ _ (option_itself origins_decide a.origin) (option_itself hops_decide a.next_hop)) (option_itself numbers_decide a.med)) (option_itself numbers_decide a.local_pref)) (bool_itself a.atomic)) (option_itself aggregators_decide a.aggregator)) (option_itself paths_decide a.path)
+    and_from _ _ (and_from _ _ (and_from _ _ (and_from _ _ (and_from _ _ (and_from _ _ (and_from _ _ (option_itself origins_decide a.origin) (option_itself hops_decide a.next_hop)) (option_itself numbers_decide a.med)) (option_itself numbers_decide a.local_pref)) (bool_itself a.atomic)) (option_itself aggregators_decide a.aggregator)) (option_itself paths_decide a.path)) (list_itself values_decide a.kept)
 
 pub same_as_route : (a b : Route) → a ≡ b → route_eq a b ≡ true
 same_as_route a b h = ap (route_eq a) (sym h) ∙ route_itself a
 
 -- a test that is true exactly of equal routes is the test of all fields
 pub decides_same : (b : Bool) (x y : Route) → (b ≡ true → x ≡ y) → (x ≡ y → b ≡ true) → b ≡ route_eq x y
-decides_same true x y f g = sym (same_as_route x y (f refl))
-decides_same false x y f g = elim (route_eq x y) as (λ t. route_eq x y ≡ t → false ≡ t) [
-  | true ↦ λ e. g (same_route x y e)
-  | false ↦ λ e. refl
-] refl
+decides_same b x y f g = by_equality {eq = route_eq} (record { same = same_route; itself = route_itself }) b x y f g

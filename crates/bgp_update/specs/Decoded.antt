@@ -1,5 +1,5 @@
 -- Updates and routes among others: their keys in one list, and the packed bytes of their routes in another.
-use Rattle.std.specs.Prelude.{◌≡◌, ℕ, ◌+◌, ◌≤◌, List, [], ◌++◌, length, take, drop, Option, Some, None, Result, Ok, IfSome}
+use Rattle.std.specs.Prelude.{◌≡◌, ℕ, ◌+◌, ◌≤◌, Bool, List, [], ◌++◌, length, take, drop, Option, Some, None, Result, Ok, IfSome}
 use Rattle.mrt_frame.specs.declared.fault.Fault.{Fault}
 use Rattle.bgp_prefix.specs.Prefixes.{IpPrefix}
 use Rattle.bgp_prefix.specs.Keys.{RouteKey}
@@ -13,7 +13,12 @@ use Rattle.bgp_update.specs.declared.decoded.HashedRoute.{HashedRoute}
 use Rattle.bgp_update.specs.declared.update_ref.UpdateRef.{UpdateRef as UpdateRefOf}
 use Rattle.bgp_update.specs.Hops.{IsByHop}
 use Rattle.bgp_update.specs.Packing.{IsPacked, unpacked}
-use Rattle.bgp_update.specs.Updates.{Update}
+use Rattle.bgp_update.specs.Updates.{Update, own_keys_in}
+use Rattle.bgp_update.specs.Families.{FamilyOf}
+use Rattle.bgp_update.specs.Multiprotocol.{reached_keys, unreached_keys}
+use Rattle.bgp_update.specs.Values.{Values}
+use Rattle.bgp_update.specs.declared.attribute_type.AttributeType.TheVariants.{MpReachNlri, MpUnreachNlri}
+use Rattle.mrt_frame.specs.Fields.{◌>>=◌}
 
 -- items were added at the end, or none
 pub record IsGrown {A : Type 0} (before after : List A) : Type 0 where
@@ -52,6 +57,34 @@ pub record AreKeysOf (before after : List RouteKey) (n : AppendedKeys) (route : 
     route = route;
     reached_hop = n.reached_hop;
   })
+
+-- the keys of an UPDATE that are read behind its attributes, and the next hop of MP_REACH_NLRI
+pub record Behind : Type 0 where
+  pub unreached : List RouteKey
+  pub hop : Option NextHop
+  pub reached : List RouteKey
+  pub announced : List RouteKey
+
+-- the same of these values of attributes, which were kept or have a fault
+unfoldable pub behind_in : {A : Type 0} → FamilyOf → Bool → Values → Result A Fault → List ℕ → Result Behind Fault
+behind_in family add_path values kept announced = do
+  unreached ← unreached_keys family add_path (values MpUnreachNlri)
+  reached ← reached_keys family add_path (values MpReachNlri)
+  checked ← kept
+  own ← own_keys_in family add_path announced
+  Ok (record { unreached = unreached; hop = reached.0; reached = reached.1; announced = own })
+
+-- these keys were added, where those of the message begin behind so many
+pub record AppendsBehind (start : ℕ) (before after : List RouteKey) (n : AppendedKeys) (read : Result Behind Fault) :
+    Type 0 where
+  pub added : Behind
+  pub is : read ≡ Ok added
+  pub hop : added.hop ≡ n.reached_hop
+  pub none : n.reached_hop ≡ None → added.reached ≡ []
+  pub parts : after ≡ before ++ (added.unreached ++ (added.reached ++ added.announced))
+  pub withdrawn : start + n.withdrawn ≡ length before + length added.unreached
+  pub reached_len : length added.reached ≡ n.reached
+  pub announced_len : length added.announced ≡ n.announced
 
 -- the update of keys that were added so, one kind after the other, and of its route
 abbrev pub split_update : List RouteKey → AppendedKeys → Route → Update

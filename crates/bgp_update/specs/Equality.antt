@@ -7,6 +7,7 @@ use Rattle.bgp_update.specs.declared.route.Origin.{Origin}
 use Rattle.bgp_update.specs.declared.route.Origin.TheVariants.{Igp, Egp, Incomplete}
 use Rattle.bgp_update.specs.declared.route.Aggregator.{Aggregator}
 use Rattle.bgp_update.specs.declared.route.Route.{Route}
+use Rattle.bgp_update.specs.KeptAttributes.{KeptValue}
 use Rattle.bgp_update.specs.PathEquality.{list_eq, number_eq, segment_eq}
 
 abbrev pub bool_eq : Bool → Bool → Bool
@@ -27,6 +28,9 @@ hop_eq (V6 a) (V6 b) = a == b
 hop_eq (V6Pair a link) (V6Pair b other) = (a == b) && (link == other)
 hop_eq a b = false
 
+abbrev pub kept_eq : KeptValue → KeptValue → Bool
+kept_eq a b = (a.code == b.code) && list_eq number_eq a.value b.value
+
 unfoldable pub route_eq : Route → Route → Bool
 route_eq a b = option_eq (λ x y. origin_number x == origin_number y) a.origin b.origin
     && option_eq hop_eq a.next_hop b.next_hop
@@ -35,3 +39,4 @@ route_eq a b = option_eq (λ x y. origin_number x == origin_number y) a.origin b
     && bool_eq a.atomic b.atomic
     && option_eq aggregator_eq a.aggregator b.aggregator
     && option_eq (list_eq segment_eq) a.path b.path
+    && list_eq kept_eq a.kept b.kept

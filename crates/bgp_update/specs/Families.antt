@@ -2,6 +2,7 @@
 use Rattle.std.specs.Prelude.{ℕ, ◌^◌, ◌<◌, Bool, true, false}
 use Rattle.std.proofs.Common.{arith}
 use Rattle.bgp_update.specs.declared.unicast.FamilyEncoding.{FamilyEncoding}
+use Rattle.bgp_update.specs.declared.kept_attribute.AttributeSet.{AttributeSet}
 
 -- What a family has of its own: its number, of two bytes; the bits of its addresses; whether an UPDATE's own fields,
 -- withdrawn routes, NLRI and NEXT_HOP (RFC 4271, 4.3), are of this family; and the subtypes of its RIB records (RFC
@@ -33,3 +34,11 @@ pub record KeyForm : Type 0 where
 -- how the keys of a family are written, with ADD-PATH (RFC 7911, section 3) or without
 abbrev pub form_of : FamilyOf → Bool → KeyForm
 form_of family add_path = record { width = family.width; add_path = add_path }
+
+-- by which rules messages and entries are read: of which family the routes are, and which further attributes they keep
+pub record Rules : Type 0 where
+  pub family : FamilyOf
+  pub kept : AttributeSet
+
+abbrev pub rules_of : FamilyOf → AttributeSet → Rules
+rules_of family kept = record { family = family; kept = kept }

@@ -8,10 +8,12 @@ ghost use Rattle.mrt_frame.specs.Fields.{Reads};
 ghost use Rattle.bgp_update.specs.Segments.{number_len, path_in};
 ghost use Rattle.bgp_update.specs.Attributes as attributes;
 ghost use Rattle.bgp_update.specs.Attributes.{length_len};
+ghost use Rattle.bgp_update.specs.Families.{rules_of};
 ghost use Rattle.bgp_update.specs.Values as values;
 
 use crate::attribute_context::AttributeContext;
 use crate::attribute_type::AttributeType;
+use crate::kept_attribute::AttributeSet;
 use crate::multiprotocol::{entry_hop, reach_in, unreach_in};
 use crate::route_fields::origin_of;
 use crate::segment::segment_count;
@@ -101,10 +103,11 @@ fn unreach_head_fault<F: Unicast>(context: AttributeContext, value: &[u8]) -> Op
 pub fn head_fault<F: Unicast>(
     context: AttributeContext,
     width: Width,
+    kept: AttributeSet,
     attribute_type: AttributeType,
     value: &[u8],
 ) -> Option<Fault>
-    ensures { result ≡ values.head_fault F.family context width attribute_type value.now }
+    ensures { result ≡ values.head_fault (rules_of F.family kept) context width attribute_type value.now }
 {
     let bad = attribute_type.fault();
     match attribute_type {
@@ -117,6 +120,11 @@ pub fn head_fault<F: Unicast>(
         AttributeType::MpReachNlri => reach_head_fault::<F>(context, value),
         AttributeType::MpUnreachNlri => unreach_head_fault::<F>(context, value),
         AttributeType::As4Path | AttributeType::As4Aggregator => None,
+        AttributeType::Kept(attribute) => if kept.has(attribute) {
+            fault_unless(attribute.is_formed(value), bad)
+        } else {
+            None
+        },
     }
 }
 

@@ -5,33 +5,36 @@
 ghost use Rattle.std.specs.Prelude.{◌≡◌};
 ghost use Rattle.bgp_update.specs.AttributeTypes.{type_code, type_of, bad_attribute};
 
+use crate::kept_attribute::KeptAttribute;
 use mrt_frame::Fault;
 
-/// A path attribute type that is looked at, by its type code (RFC 4271, 4.3).
+/// A path attribute type that is looked at (RFC 4271, 4.3).
 #[derive(Clone, Copy)]
 pub enum AttributeType {
     /// ORIGIN (RFC 4271, 5.1.1), read by `origin_of`.
-    Origin = 1,
+    Origin,
     /// AS_PATH (RFC 4271, 5.1.2), read by `read_path`.
-    AsPath = 2,
+    AsPath,
     /// NEXT_HOP (RFC 4271, 5.1.3), read by `next_hop_value`.
-    NextHop = 3,
+    NextHop,
     /// MULTI_EXIT_DISC (RFC 4271, 5.1.4), read by `number_value`.
-    MultiExitDisc = 4,
+    MultiExitDisc,
     /// LOCAL_PREF (RFC 4271, 5.1.5), read by `number_value`.
-    LocalPref = 5,
+    LocalPref,
     /// ATOMIC_AGGREGATE (RFC 4271, 5.1.6), which has no value.
-    AtomicAggregate = 6,
+    AtomicAggregate,
     /// AGGREGATOR (RFC 4271, 5.1.7), read by `aggregator_of`.
-    Aggregator = 7,
+    Aggregator,
     /// MP_REACH_NLRI (RFC 4760, 3), read by `reach_in`.
-    MpReachNlri = 14,
+    MpReachNlri,
     /// MP_UNREACH_NLRI (RFC 4760, 4), read by `unreach_in`.
-    MpUnreachNlri = 15,
+    MpUnreachNlri,
     /// AS4_PATH (RFC 6793, 3), read by `as4_path_value`: nothing is wrong with any value.
-    As4Path = 17,
+    As4Path,
     /// AS4_AGGREGATOR (RFC 6793, 3), read by `as4_aggregator_of`: nothing is wrong with any value.
-    As4Aggregator = 18,
+    As4Aggregator,
+    /// One that a route keeps where it is asked for.
+    Kept(KeptAttribute),
 }
 
 impl AttributeType {
@@ -52,7 +55,10 @@ impl AttributeType {
             15 => Some(AttributeType::MpUnreachNlri),
             17 => Some(AttributeType::As4Path),
             18 => Some(AttributeType::As4Aggregator),
-            _ => None,
+            _ => match KeptAttribute::of_code(code) {
+                Some(attribute) => Some(AttributeType::Kept(attribute)),
+                None => None,
+            },
         }
     }
 
@@ -60,7 +66,20 @@ impl AttributeType {
     pub fn code(self) -> u8
         ensures { result ≡ type_code self }
     {
-        self as u8
+        match self {
+            AttributeType::Origin => 1,
+            AttributeType::AsPath => 2,
+            AttributeType::NextHop => 3,
+            AttributeType::MultiExitDisc => 4,
+            AttributeType::LocalPref => 5,
+            AttributeType::AtomicAggregate => 6,
+            AttributeType::Aggregator => 7,
+            AttributeType::MpReachNlri => 14,
+            AttributeType::MpUnreachNlri => 15,
+            AttributeType::As4Path => 17,
+            AttributeType::As4Aggregator => 18,
+            AttributeType::Kept(attribute) => attribute.code(),
+        }
     }
 
     /// The fault of a malformed attribute of this type, or of a repeat that is refused.

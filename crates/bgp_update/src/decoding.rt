@@ -2,16 +2,21 @@
 
 ghost use Rattle.std.specs.Prelude.{◌+◌, ◌^◌, ◌<◌, IfOk};
 ghost use Rattle.bgp_update.specs.Results.{Gives, UnlessMemory};
+ghost use Rattle.bgp_update.specs.Families.{rules_of};
 ghost use Rattle.bgp_update.specs.Attributes.{route_in};
 ghost use Rattle.bgp_update.specs.Decoded.{AreUpdateSpans, IsGrown, IsRouteAt, IsUpdateAt, route_at, update_at};
 ghost use Rattle.bgp_update.specs.Updates.{update_in};
+ghost use Rattle.bgp_update.specs.Values.{plain_rules};
 
+use crate::asked_values::{AskedValues, keep_asked};
 use crate::attr_error::AttrError;
 use crate::attribute_context::AttributeContext;
 use crate::decoded::{RouteSpan, Span, UpdateSpans};
+use crate::kept_attribute::AttributeSet;
+use crate::kept_values::{KeptValues, kept_block};
 use crate::packing::{pack_entry, pack_reached, pack_values};
 use crate::unicast::Unicast;
-use crate::update::{AppendedKeys, read_keys};
+use crate::update::{AppendedKeys, read_asked_keys, read_keys};
 use crate::values::{FirstValues, keep_values};
 use crate::width::Width;
 use bgp_prefix::{Memory, Prefix, RouteKey};
@@ -27,13 +32,40 @@ pub fn decode_entry<F: Unicast>(
     attrs: &[u8],
     width: Width,
 ) -> Result<RouteSpan, AttrError>
-    ensures exact { Gives (route_at bytes.new.items) result (route_in F.family width attrs.now) }
+    ensures exact { Gives (route_at bytes.new.items) result (route_in (plain_rules F.family) width attrs.now) }
     ensures there { IfOk result (IsRouteAt bytes.new.items) }
     ensures grown { UnlessMemory result (IsGrown bytes.old.items bytes.new.items) }
 {
     let mut first = FirstValues::new();
     keep_values::<F>(&mut first, attrs, AttributeContext::RibEntry, width)?;
-    let span = pack_entry::<F>(alloc, bytes, &first, width)?;
+    let span = pack_entry::<F>(alloc, bytes, &first, width, &KeptValues::none())?;
+    Ok(span)
+}
+
+/// The same of a route that keeps the attributes that are asked for.
+#[tactic(auto, unfolding(crate::specs::Attributes::route_in))]
+pub fn decode_asked_entry<F: Unicast>(
+    alloc: Global,
+    bytes: &mut Vec<u8>,
+    attrs: &[u8],
+    asked: AttributeSet,
+    width: Width,
+) -> Result<RouteSpan, AttrError>
+    ensures exact { Gives (route_at bytes.new.items) result (route_in (rules_of F.family asked) width attrs.now) }
+    ensures there { IfOk result (IsRouteAt bytes.new.items) }
+    ensures grown { UnlessMemory result (IsGrown bytes.old.items bytes.new.items) }
+{
+    let mut first = FirstValues::new();
+    let mut kept = AskedValues::new(asked);
+    keep_asked::<F>(
+        &mut first,
+        &mut kept,
+        attrs,
+        AttributeContext::RibEntry,
+        width,
+    )?;
+    let block = kept_block(alloc, &kept)?;
+    let span = pack_entry::<F>(alloc, bytes, &first, width, &block.values())?;
     Ok(span)
 }
 
@@ -72,7 +104,7 @@ pub fn decode_update<F: Unicast>(
     add_path: bool,
 ) -> Result<UpdateSpans, AttrError>
     ensures exact { Gives (update_at keys.new.items bytes.new.items) result
-        (update_in F.family width add_path body.now) }
+        (update_in (plain_rules F.family) width add_path body.now) }
     ensures there { IfOk result (IsUpdateAt keys.new.items bytes.new.items) }
     ensures keys { UnlessMemory result (IsGrown keys.old.items keys.new.items) }
     ensures bytes { UnlessMemory result (IsGrown bytes.old.items bytes.new.items) }
@@ -80,8 +112,36 @@ pub fn decode_update<F: Unicast>(
     let start = keys.len();
     let mut first = FirstValues::new();
     let appended = read_keys(keys, body, width, add_path, &mut first)?;
-    let route = pack_values(alloc, bytes, &first, width)?;
-    let reached_route = pack_reached(alloc, bytes, &first, width, &appended)?;
+    let route = pack_values(alloc, bytes, &first, width, &KeptValues::none())?;
+    let reached_route = pack_reached(alloc, bytes, &first, width, &KeptValues::none(), &appended)?;
+    let spans = spans_of(start, &appended, route, reached_route)?;
+    Ok(spans)
+}
+
+/// The same of an UPDATE whose route keeps the attributes that are asked for.
+pub fn decode_asked_update<F: Unicast>(
+    alloc: Global,
+    keys: &mut Vec<RouteKey<Prefix<F>>>,
+    bytes: &mut Vec<u8>,
+    body: &[u8],
+    asked: AttributeSet,
+    width: Width,
+    add_path: bool,
+) -> Result<UpdateSpans, AttrError>
+    ensures exact { Gives (update_at keys.new.items bytes.new.items) result
+        (update_in (rules_of F.family asked) width add_path body.now) }
+    ensures there { IfOk result (IsUpdateAt keys.new.items bytes.new.items) }
+    ensures keys { UnlessMemory result (IsGrown keys.old.items keys.new.items) }
+    ensures bytes { UnlessMemory result (IsGrown bytes.old.items bytes.new.items) }
+{
+    let start = keys.len();
+    let mut first = FirstValues::new();
+    let mut kept = AskedValues::new(asked);
+    let appended = read_asked_keys(keys, body, width, add_path, &mut first, &mut kept)?;
+    let block = kept_block(alloc, &kept)?;
+    let values = block.values();
+    let route = pack_values(alloc, bytes, &first, width, &values)?;
+    let reached_route = pack_reached(alloc, bytes, &first, width, &values, &appended)?;
     let spans = spans_of(start, &appended, route, reached_route)?;
     Ok(spans)
 }

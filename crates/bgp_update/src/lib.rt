@@ -32,6 +32,7 @@
 //! - `Route`'s fields are declared in order of size, since the compiler keeps the order: 128 bytes instead of 144.
 #![tactic(auto)]
 
+mod asked_values;
 mod attr_error;
 mod attribute;
 mod attribute_context;
@@ -41,6 +42,8 @@ mod decoding;
 mod families;
 mod family_mark;
 mod front_bytes;
+mod kept_attribute;
+mod kept_values;
 mod key;
 mod laws;
 mod merge;
@@ -56,6 +59,7 @@ mod path_writing;
 mod route;
 mod route_fields;
 mod route_ref;
+mod rules;
 mod segment;
 mod unicast;
 mod update;
@@ -66,8 +70,10 @@ mod written_hop;
 
 pub use attr_error::AttrError;
 pub use decoded::{HashedRoute, RouteSpan, Span, UpdateSpans};
-pub use decoding::{decode_entry, decode_update};
+pub use decoding::{decode_asked_entry, decode_asked_update, decode_entry, decode_update};
 pub use family_mark::FamilyMark;
+pub use kept_attribute::{AttributeSet, KeptAttribute};
+pub use kept_values::{KeptBlock, KeptValues};
 pub use key::prefix_at;
 pub use laws::{merging_is_unique, updates_agree_with_their_forms};
 pub use next_hop::NextHop;
@@ -75,6 +81,7 @@ pub use packed_path::{PackedSegment, PackedSegments};
 pub use path::{AsPath, Segment, SegmentKind};
 pub use route::{Aggregator, Origin, Route, Update};
 pub use route_ref::RouteRef;
+pub use rules::Rules;
 pub use unicast::{FamilyEncoding, Unicast};
 pub use update::{read_attrs, read_update};
 pub use update_ref::UpdateRef;

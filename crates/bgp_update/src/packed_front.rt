@@ -1,4 +1,5 @@
-//! The bytes of a packed route in front of its path: two bytes of flags, and the fields that are there in a fixed order.
+//! The bytes of a packed route in front of its path: two bytes of flags, and those fields that are there, in a fixed
+//! order.
 
 ghost use Rattle.std.specs.Prelude.{◌≡◌, ◌+◌, ◌≤◌, ◌<◌, ◌^◌, [], ◌++◌, IfSome, OnOk, length};
 ghost use Rattle.bgp_update.specs.Hops.{by_hop};
@@ -9,6 +10,7 @@ ghost use Rattle.bgp_update.specs.Values.{kept_route};
 
 use crate::attribute_type::AttributeType;
 use crate::front_bytes::FrontBytes;
+use crate::kept_values::KeptValues;
 use crate::route::{Aggregator, Origin};
 use crate::route_fields::{aggregator_from, number_value, origin_value};
 use crate::values::FirstValues;
@@ -101,13 +103,14 @@ fn push_aggregator(out: &mut FrontBytes, aggregator: Option<Aggregator>)
 fn write_front(
     out: &mut FrontBytes,
     first: &FirstValues<'_>,
+    kept: &KeptValues<'_>,
     width: Width,
     hop: &Option<WrittenHop<'_>>,
     has_path: bool,
 )
     requires { out.old ≡ [] }
-    ensures bytes { out.new ≡ front_bytes (by_hop (kept_route width first.now) hop.now) has_path }
-    ensures widths { HaveWidths (by_hop (kept_route width first.now) hop.now) }
+    ensures bytes { out.new ≡ front_bytes (by_hop (kept_route width first.now kept.now) hop.now) has_path }
+    ensures widths { HaveWidths (by_hop (kept_route width first.now kept.now) hop.now) }
 {
     let origin = origin_value(first.value(AttributeType::Origin));
     let med = number_value(first.value(AttributeType::MultiExitDisc));
@@ -120,7 +123,7 @@ fn write_front(
         + 32 * flag(med.is_some())
         + 64 * flag(local_pref.is_some())
         + 128 * flag(aggregator.is_some());
-    out.push(&[fields, flag(has_path)]);
+    out.push(&[fields, flag(has_path) + 2 * flag(kept.is_any())]);
     push_hop(out, hop);
     push_number(out, med);
     push_number(out, local_pref);
@@ -132,15 +135,16 @@ fn write_front(
 pub(crate) fn push_front(
     out: &mut Vec<u8>,
     first: &FirstValues<'_>,
+    kept: &KeptValues<'_>,
     width: Width,
     hop: &Option<WrittenHop<'_>>,
     has_path: bool,
 ) -> Result<(), Memory>
     ensures bytes { OnOk result (out.new.items
-        ≡ out.old.items ++ front_bytes (by_hop (kept_route width first.now) hop.now) has_path) }
-    ensures widths { OnOk result (HaveWidths (by_hop (kept_route width first.now) hop.now)) }
+        ≡ out.old.items ++ front_bytes (by_hop (kept_route width first.now kept.now) hop.now) has_path) }
+    ensures widths { OnOk result (HaveWidths (by_hop (kept_route width first.now kept.now) hop.now)) }
 {
     let mut front = FrontBytes::new();
-    write_front(&mut front, first, width, hop, has_path);
+    write_front(&mut front, first, kept, width, hop, has_path);
     front.append_to(out)
 }

@@ -1,12 +1,13 @@
 //! A packed route whose bytes are borrowed, and its fields.
 
-ghost use Rattle.std.specs.Prelude.{◌≡◌, ◌↔◌, ◌+◌, ◌≤◌, length, drop, IsTrue};
+ghost use Rattle.std.specs.Prelude.{◌≡◌, ◌↔◌, ◌+◌, ◌-◌, ◌≤◌, [], length, take, drop, IsTrue, MatchOption};
 ghost use Rattle.std.specs.Option.{option_and_then};
 ghost use Rattle.bgp_update.specs.Packing as packing;
-ghost use Rattle.bgp_update.specs.Packing.{IsPacked, unpacked, hop_by, hop_bits, aggregator_by, flag_bit};
+ghost use Rattle.bgp_update.specs.Packing.{IsPacked, unpacked, hop_by, hop_bits, aggregator_by, flag_bit, part_bit};
 ghost use Rattle.bgp_update.specs.Paths.{origin_as_of};
 ghost use Rattle.bgp_update.specs.Equality.{route_eq};
 
+use crate::kept_values::KeptValues;
 use crate::next_hop::NextHop;
 use crate::packed_path::PackedSegments;
 use crate::route::{Aggregator, Origin};
@@ -63,6 +64,40 @@ fn starts_in(bytes: &[u8]) -> Starts
         local_pref,
         aggregator,
         path,
+    }
+}
+
+/// Whether attributes are kept.
+#[inline(always)]
+fn keeps_any(bytes: &[u8]) -> bool
+    requires { 2 ≤ length bytes.now }
+    ensures { IsTrue result ↔ (part_bit 2 bytes.now ≡ 1) }
+{
+    bytes[1] / 2 % 2 == 1
+}
+
+/// The bytes of the attributes that are kept, from where the path ends.
+fn kept_bytes(bytes: &[u8], start: usize) -> &[u8]
+    requires long { 4 ≤ length bytes.now }
+    requires within { start ≤ length bytes.now - 4 }
+    ensures { result.now ≡ take (length bytes.now - 4 - start) (drop start bytes.now) }
+{
+    &bytes[start..bytes.len() - 4]
+}
+
+/// Where the path ends: in front of the attributes that are kept, if there are any.
+#[inline(always)]
+#[tactic(auto, unfolding(crate::specs::Packing::path_end))]
+fn path_end(bytes: &[u8]) -> usize
+    requires long { 2 ≤ length bytes.now }
+    requires kept { part_bit 2 bytes.now ≡ 1 → 4 + packing.kept_len bytes.now ≤ length bytes.now }
+    ensures { result ≡ packing.path_end bytes.now }
+{
+    if keeps_any(bytes) {
+        let end = bytes.len() - 4;
+        end - BigEndian::read_u32(&bytes[end..]) as usize
+    } else {
+        bytes.len()
     }
 }
 
@@ -213,13 +248,26 @@ impl<'a> RouteRef<'a> {
     }
 
     /// The segments of AS_PATH (RFC 4271, 5.1.2).
-    #[tactic(auto, using(crate::proofs::Packings::packed_room, crate::proofs::Packings::packed_path), unfolding(crate::specs::Packing::unpacked, crate::specs::Packing::starts_in))]
+    #[tactic(auto, using(crate::proofs::Packings::packed_room, crate::proofs::Packings::packed_parts), unfolding(crate::specs::Packing::unpacked, crate::specs::Packing::starts_in))]
     pub fn path(&self) -> Option<PackedSegments<'a>>
         ensures { result ≡ self.now.path }
     {
         let bytes = self.bytes;
-        if bytes[1] == 1 {
-            Some(PackedSegments::of_bytes(&bytes[starts_in(bytes).path..]))
+        if bytes[1] % 2 == 1 {
+            Some(PackedSegments::of_bytes(&bytes[starts_in(bytes).path..path_end(bytes)]))
+        } else {
+            None
+        }
+    }
+
+    /// The further attributes that it keeps, if there are any.
+    #[tactic(auto, using(crate::proofs::Packings::packed_room), unfolding(crate::specs::Packing::starts_in))]
+    pub fn kept(&self) -> Option<KeptValues<'a>>
+        ensures { MatchOption result (self.now.kept ≡ []) (λ kept. self.now.kept ≡ kept) }
+    {
+        let bytes = self.bytes;
+        if keeps_any(bytes) {
+            Some(KeptValues::of_bytes(kept_bytes(bytes, path_end(bytes))))
         } else {
             None
         }

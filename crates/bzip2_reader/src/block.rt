@@ -111,8 +111,8 @@ pub(crate) struct Text {
     pub(crate) end: usize,
 }
 
-/// Reads the block that begins at this bit into a column, and makes its links: the bytes that walk them from the first on
-/// are its text.
+/// Reads the block that begins at this bit into a column, and makes its links: the bytes that walk them from the first
+/// on are its text.
 pub(crate) fn read_text(
     codes: &mut Codes,
     column: &mut [u8],

@@ -1,4 +1,5 @@
-// Walks of a block's links, side by side.
+//! Walks of a block's links, side by side.
+
 ghost use Rattle.std.specs.Prelude.{◌≡◌, ◌<◌, ◌≤◌, ℕ, List, All, IfSome, length, take};
 ghost use Rattle.bzip2_reader.specs.Links.{IsWalk};
 ghost use Rattle.bzip2_reader.specs.Walks.{AreSegments, IsFront, IsLane, IsSegment};

@@ -41,6 +41,7 @@
 mod address;
 mod address_family;
 mod address_text;
+mod attributes;
 mod build;
 mod choice;
 mod commands;
@@ -62,6 +63,7 @@ mod wrap;
 pub use address::read_address;
 pub use address_family::AddressFamily;
 pub use address_text::{AddressText, PrefixWords};
+pub use attributes::attribute_name;
 pub use choice::{fault_of_reach, read_choice, read_prefix, read_reach};
 pub use file_list::{FileListError, fault_of_file_list, read_file_list};
 pub use kind::{FirstBytes, Kind};

@@ -49,7 +49,7 @@ pub struct CommandRow {
     pub examples: &'static [&'static str],
 }
 
-pub static OPTIONS: [OptionRow; 19] = [
+pub static OPTIONS: [OptionRow; 20] = [
     OptionRow {
         name: "address",
         value: "A",
@@ -169,6 +169,16 @@ pub static OPTIONS: [OptionRow; 19] = [
         commands: "",
         is_required: false,
         meaning: "Say how IPv6 addresses are printed, those of peers and of next hops alike. With full each has eight groups of four digits. With short leading zeros are left out, and :: stands for the longest run of zero groups (RFC 5952). With --family ipv6 prefixes and next hops are short in either case",
+    },
+    OptionRow {
+        name: "attributes",
+        value: "LIST",
+        takes: Takes::Texts,
+        default: "",
+        offered: "communities extended large originator clusters otc all",
+        commands: "",
+        is_required: false,
+        meaning: "Keep these further attributes of routes. LIST is all, or names joined by commas: communities, printed as 65000:666; extended, as rt:65000:1, ro:192.0.2.1:1 or 0x and sixteen digits; large, as 65000:1:2; originator and clusters, as 192.0.2.1; otc, as 65000. Each is one more column at the end of tables, match and history, in this order, and routes that differ in one of them are two routes. Given more than once, each list adds to the others",
     },
     OptionRow {
         name: "same",

@@ -7,6 +7,7 @@ ghost use Rattle.command_line.specs.Families.{SpellsIn};
 
 use crate::address_family::AddressFamily;
 use crate::address_text::AddressText;
+use crate::attributes::{add_attributes, attribute_names};
 use crate::build::version_text;
 use crate::choice::{fault_of_reach, read_choice};
 use crate::commands::{closings, command};
@@ -14,11 +15,11 @@ use crate::moment::read_second;
 use crate::peers::{read_peer, read_share};
 use crate::refusal::refusal_of;
 use bgp_prefix::{Ipv6, Prefix};
-use bgp_update::{FamilyMark, Unicast};
+use bgp_update::{AttributeSet, FamilyMark, Unicast};
 use clap::error::ErrorKind;
 use clap::{ArgMatches, Error};
 use peer_units::{PeerChoice, PrefixChoice, RibRule, Share, StateRule};
-use report_request::{AddressForm, AddressForms, Layout, LayoutOf, Request};
+use report_request::{AddressForm, Layout, LayoutOf, Request};
 use std::alloc::{AllocError, AllocFailed, Global};
 
 static WORKERS_DEFAULT: usize = 4;
@@ -222,6 +223,27 @@ fn ribs_of(alloc: Global, matches: &ArgMatches<'_>) -> Result<RibRule, Usage>
     }
 }
 
+/// Returns the further attributes of routes that are asked for.
+fn attributes_of(alloc: Global, matches: &ArgMatches<'_>) -> Result<AttributeSet, Usage>
+    ensures { IfErr result IsRefusal }
+{
+    let mut asked = AttributeSet::none();
+    if let Some(lists) = matches.get_strs("attributes") {
+        for list in lists {
+            match add_attributes(asked, list) {
+                Ok(more) => asked = more,
+                Err(name) => {
+                    let names = attribute_names(alloc)?;
+                    return Err(Usage::Words(format!(in alloc;
+                        "error: invalid value '{list}' for '--attributes <LIST>': '{name}' is no attribute\n  they are {names}, or all; more than one are joined by commas\n"
+                    )?));
+                }
+            }
+        }
+    }
+    Ok(asked)
+}
+
 /// Returns how the lines of a report are written: the addresses of IPv6 routes are short (RFC 5952).
 fn layout_of<F: AddressText>(alloc: Global, matches: &ArgMatches<'_>) -> Result<LayoutOf<F>, Usage>
     ensures { IfErr result IsRefusal }
@@ -236,14 +258,13 @@ fn layout_of<F: AddressText>(alloc: Global, matches: &ArgMatches<'_>) -> Result<
         }
     };
     Ok(Layout {
-        addresses: AddressForms {
-            peers: form,
-            routes: match F::FAMILY {
-                AddressFamily::Ipv4 => form,
-                AddressFamily::Ipv6 => AddressForm::Short,
-            },
-            family: FamilyMark::new(),
+        peer_addresses: form,
+        route_addresses: match F::FAMILY {
+            AddressFamily::Ipv4 => form,
+            AddressFamily::Ipv6 => AddressForm::Short,
         },
+        family: FamilyMark::new(),
+        attributes: attributes_of(alloc, matches)?,
     })
 }
 

@@ -119,12 +119,18 @@ fn addresses_of_ipv6_routes_are_short(rt: HostRuntime) -> Result<(), Fail> {
         let asked = asked_of(alloc, text)?;
         match &asked {
             Ok(Asked::Ipv4(job)) => {
-                let forms = &job.layout.addresses;
-                assert!(rt; forms.peers == peers && forms.routes == routes, "{text}");
+                let layout = &job.layout;
+                assert!(rt;
+                    layout.peer_addresses == peers && layout.route_addresses == routes,
+                    "{text}"
+                );
             }
             Ok(Asked::Ipv6(job)) => {
-                let forms = &job.layout.addresses;
-                assert!(rt; forms.peers == peers && forms.routes == routes, "{text}");
+                let layout = &job.layout;
+                assert!(rt;
+                    layout.peer_addresses == peers && layout.route_addresses == routes,
+                    "{text}"
+                );
             }
             Err(_) => assert!(rt; false, "{text}"),
         }

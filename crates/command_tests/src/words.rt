@@ -1,6 +1,7 @@
 //! Rows on words, addresses and statuses.
 
 use crate::asked::{asked_of, ipv4_job};
+use bgp_update::KeptAttribute;
 use command_line::{
     Asked, FileListError, FileName, FirstBytes, Kind, Usage, fault_of_file_list, read_address,
     read_file_list, read_second,
@@ -252,10 +253,10 @@ fn rules_and_forms_are_words(rt: HostRuntime) -> Result<(), Fail> {
         ),
     ] {
         let job = ipv4_job(&rt, alloc, text)?;
-        let forms = &job.layout.addresses;
+        let layout = &job.layout;
         let found = format!(in alloc;
             "{:?} {:?} {:?} {:?}",
-            job.states, job.ribs, forms.peers, forms.routes
+            job.states, job.ribs, layout.peer_addresses, layout.route_addresses
         )?;
         assert!(rt; found.as_str() == expected, "{text}: {found}");
     }
@@ -263,6 +264,57 @@ fn rules_and_forms_are_words(rt: HostRuntime) -> Result<(), Fail> {
 }
 
 /// Whether the words say how many workers, and ask for a header, a summary and the progress.
+/// Names joined by commas; each list adds to the others.
+#[test]
+fn names_ask_for_attributes(rt: HostRuntime) -> Result<(), Fail> {
+    let alloc = rt.alloc();
+    for (text, expected) in [
+        ("tables x", "false false false false false false"),
+        (
+            "tables --attributes communities x",
+            "true false false false false false",
+        ),
+        (
+            "churn x --attributes otc,extended",
+            "false true false false false true",
+        ),
+        (
+            "history --attributes=large --attributes originator,large x",
+            "false false true true false false",
+        ),
+        (
+            "faults --attributes clusters,clusters x",
+            "false false false false true false",
+        ),
+        ("tables --attributes all x", "true true true true true true"),
+        (
+            "tables --attributes otc,all x",
+            "true true true true true true",
+        ),
+    ] {
+        let job = ipv4_job(&rt, alloc, text)?;
+        let mut found = String::new(alloc);
+        for attribute in &KeptAttribute::ALL {
+            if !found.is_empty() {
+                found.push(' ')?;
+            }
+            let has = job.layout.attributes.has(*attribute);
+            found.push_str(if has { "true" } else { "false" })?;
+        }
+        assert!(rt; found.as_str() == expected, "{text}: {found}");
+    }
+    for text in [
+        "tables --attributes community x",
+        "tables --attributes communities,,otc x",
+        "tables --attributes Large x",
+        "tables --attributes communities --attributes all,none x",
+    ] {
+        let asked = asked_of(alloc, text)?;
+        assert!(rt; answer_of(&asked) == "words", "{text}");
+    }
+    Ok(())
+}
+
 #[test]
 fn a_switch_is_on_where_its_word_stands(rt: HostRuntime) -> Result<(), Fail> {
     let alloc = rt.alloc();

@@ -1,7 +1,7 @@
 //! The plan and the layout of the tests.
 
 use lane_deal::Plan;
-use report_request::{AddressForm, AddressForms, Layout};
+use report_request::{AddressForm, Layout};
 
 /// Two workers and short rings and rounds.
 pub const PLAN: Plan = Plan {
@@ -14,7 +14,5 @@ pub const PLAN: Plan = Plan {
 
 /// Addresses in full.
 pub fn full() -> Layout {
-    Layout {
-        addresses: AddressForms::all(AddressForm::Full),
-    }
+    Layout::all(AddressForm::Full)
 }

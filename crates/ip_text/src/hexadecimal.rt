@@ -23,8 +23,8 @@ pub(crate) struct HexTexts {
     ghost texts_of_bytes: { (k : ℕ) → k < 256 → (d : HexText) → IsHexText k (slice_index_or texts k d) },
 }
 
-/// Returns a digit in lower case.
-pub(crate) fn glyph(digit: u8) -> u8
+/// Returns a hexadecimal digit in lower case.
+pub fn hexadecimal_digit(digit: u8) -> u8
     requires { digit < 16 }
     ensures { result ≡ digit_glyph false digit }
 {
@@ -39,8 +39,8 @@ pub(crate) fn glyph(digit: u8) -> u8
 fn hex_text(byte: u8) -> HexText
     ensures { IsHexText byte result }
 {
-    let high = glyph(byte / 16);
-    let low = glyph(byte % 16);
+    let high = hexadecimal_digit(byte / 16);
+    let low = hexadecimal_digit(byte % 16);
     let digits = [high, low];
     if byte < 16 {
         return HexText {

@@ -9,7 +9,7 @@ ghost use Rattle.ip_text.specs.Ipv6Texts.{full_ipv6_text, groups_text, hexadecim
 
 use crate::address_form::AddressForm;
 use crate::format::{format_byte, format_front, format_text};
-use crate::hexadecimal::{HexTexts, glyph};
+use crate::hexadecimal::{HexTexts, hexadecimal_digit};
 use crate::short::DecimalTable;
 
 // ---- in full
@@ -20,10 +20,10 @@ fn format_full_group(bytes: &mut [u8], at: usize, group: u16) -> usize
     ensures { Formats bytes.old at bytes.new result 4 (digits_in (digit_glyph false) 16 4 group) }
 {
     let digits = [
-        glyph((group / 4_096 % 16) as u8),
-        glyph((group / 256 % 16) as u8),
-        glyph((group / 16 % 16) as u8),
-        glyph((group % 16) as u8),
+        hexadecimal_digit((group / 4_096 % 16) as u8),
+        hexadecimal_digit((group / 256 % 16) as u8),
+        hexadecimal_digit((group / 16 % 16) as u8),
+        hexadecimal_digit((group % 16) as u8),
     ];
     format_text(bytes, at, &digits)
 }

@@ -26,6 +26,7 @@ pub use format::{
     format_byte, format_front, format_ipv4, format_number, format_short, format_six, format_text,
     format_three,
 };
+pub use hexadecimal::hexadecimal_digit;
 pub use ipv6::format_ipv6;
 pub use short::DecimalTable;
 pub use spelled::{

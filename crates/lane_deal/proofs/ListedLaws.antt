@@ -5,7 +5,7 @@ use Rattle.std.specs.Prelude.{Result, Ok, Err, OnErr}
 use Rattle.std.proofs.lemmas.List.{map-append, append-nil, drop-append-le, take-append-le, get_or-map, length-map}
 use Rattle.std.proofs.Math.Seq.{drop-append_seam, take-append_seam}
 use Rattle.bgp_prefix.specs.Prefixes.{IpPrefix}
-use Rattle.bgp_update.specs.Families.{FamilyOf}
+use Rattle.bgp_update.specs.Families.{Rules}
 use Rattle.bgp_update.specs.Decoded.{IsWithin, span_of}
 use Rattle.bgp_update.specs.declared.decoded.Span.{Span}
 use Rattle.peer_units.specs.declared.unit.Payload.{Payload as PayloadOf}
@@ -22,7 +22,7 @@ use Rattle.lane_deal.proofs.Lists.{all_push}
 
 -- a payload whose bytes are in the block of its list
 abbrev pub ListedPayload : Type 0
-ListedPayload = PayloadOf Span IpPrefix FamilyOf
+ListedPayload = PayloadOf Span IpPrefix Rules
 
 -- ---- records and peers
 
@@ -52,8 +52,8 @@ listed_kept r r' p p' bytes (u ∷ us) kr kp all =
 -- what is within is within more
 meet_more : (n n' : ℕ) (payload : ListedPayload) → n ≤ n' → BytesMeet (IsWithin n) payload → BytesMeet (IsWithin n') payload
 meet_more n n' (State from to rule) l m = tt
-meet_more n n' (Message place width add_path family) l m = omega (arith, l, m)
-meet_more n n' (Entry key place family) l m = omega (arith, l, m)
+meet_more n n' (Message place width add_path rules) l m = omega (arith, l, m)
+meet_more n n' (Entry rules key place) l m = omega (arith, l, m)
 meet_more n n' Clear l m = tt
 
 pub within_more : (r r' p p' n n' : ℕ) (listed : List ListedUnit) → r ≤ r' → p ≤ p' → n ≤ n' → AllByRecursion (λ u. IsListed r p n u) listed → AllByRecursion (λ u. IsListed r' p' n' u) listed
@@ -71,8 +71,8 @@ stays bytes more place l =
 
 payload_stays : (bytes more : List ℕ) (payload : ListedPayload) → BytesMeet (IsWithin (length bytes)) payload → payload_of_held (span_of (bytes ++ more)) payload ≡ payload_of_held (span_of bytes) payload
 payload_stays bytes more (State from to rule) m = refl
-payload_stays bytes more (Message place width add_path family) m = ap (λ b. Message b width add_path family) (stays bytes more place m)
-payload_stays bytes more (Entry key place family) m = ap (λ b. Entry key b family) (stays bytes more place m)
+payload_stays bytes more (Message place width add_path rules) m = ap (λ b. Message b width add_path rules) (stays bytes more place m)
+payload_stays bytes more (Entry rules key place) m = ap (λ b. Entry rules key b) (stays bytes more place m)
 payload_stays bytes more Clear m = refl
 
 listed_stay : (r : List ListedRecord) (p : List NumberedPeer) (bytes more : List ℕ) (listed : List ListedUnit) → AllByRecursion (λ u. IsListed (length r) (length p) (length bytes) u) listed
@@ -92,14 +92,14 @@ own_bytes bytes more place is is_len =
 -- a payload whose bytes are at a place
 pub placed_within : (size : ℕ) (place : Span) (payload : Payload) → IsWithin size place → BytesMeet (IsWithin size) (payload_of_held (λ _. place) payload)
 placed_within size place (State from to rule) w = tt
-placed_within size place (Message bytes width add_path family) w = w
-placed_within size place (Entry key attrs family) w = w
+placed_within size place (Message bytes width add_path rules) w = w
+placed_within size place (Entry rules key attrs) w = w
 placed_within size place Clear w = tt
 
 pub placed_same : (block : List ℕ) (place : Span) (payload : Payload) → span_of block place ≡ payload_bytes payload → payload_of_held (span_of block) (payload_of_held (λ _. place) payload) ≡ payload
 placed_same block place (State from to rule) e = refl
-placed_same block place (Message bytes width add_path family) e = ap (λ b. Message b width add_path family) e
-placed_same block place (Entry key attrs family) e = ap (λ b. Entry key b family) e
+placed_same block place (Message bytes width add_path rules) e = ap (λ b. Message b width add_path rules) e
+placed_same block place (Entry rules key attrs) e = ap (λ b. Entry rules key b) e
 placed_same block place Clear e = refl
 
 -- one more unit, of a record and a peer that are listed

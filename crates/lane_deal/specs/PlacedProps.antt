@@ -9,6 +9,6 @@ use Rattle.peer_units.specs.HeldBytes.{BytesMeet}
 
 pub meet_prop : {P K : Type 0} (size : ℕ) (payload : Payload Span P K) → IsProp (BytesMeet (IsWithin size) payload)
 meet_prop size (State from to rule) = Prim.hlevel logic.props
-meet_prop size (Message place width add_path family) = Prim.hlevel logic.props
-meet_prop size (Entry key place family) = Prim.hlevel logic.props
+meet_prop size (Message place width add_path rules) = Prim.hlevel logic.props
+meet_prop size (Entry rules key place) = Prim.hlevel logic.props
 meet_prop size Clear = Prim.hlevel logic.props

@@ -12,7 +12,7 @@ use crate::lane_sender::LaneSenderOf;
 use crate::receives::Receives;
 use crate::step::Step;
 use bgp_prefix::{Memory, Prefix};
-use bgp_update::{FamilyMark, Unicast};
+use bgp_update::{Rules, Unicast};
 use mrt_body::{Lent, LentUnits, Units};
 use mrt_frame::{ReplayError, Source};
 use peer_tables::Peers;
@@ -22,7 +22,7 @@ use std::sync::atomic::AtomicBool;
 
 /// Deals what the files yield.
 #[derive(Drop)]
-pub struct Dealer<D, P = Prefix, K = FamilyMark> {
+pub struct Dealer<D, P = Prefix, K = Rules> {
     pub dealing: D,
     pub peers: Peers,
     /// The unit whose lane's ring was full. It is the next to be dealt.
@@ -34,7 +34,7 @@ pub struct Dealer<D, P = Prefix, K = FamilyMark> {
 }
 
 /// Deals what the files yield to lanes of a family.
-pub type DealerOf<D, F> = Dealer<D, Prefix<F>, FamilyMark<F>>;
+pub type DealerOf<D, F> = Dealer<D, Prefix<F>, Rules<F>>;
 
 /// Lists what the files refuse, until a unit of theirs is to be dealt or they end.
 fn list_refusals<F: Unicast, R: Source>(
@@ -55,7 +55,7 @@ fn list_refusals<F: Unicast, R: Source>(
     Ok(())
 }
 
-impl<F: Unicast, D: Dealing> Dealer<D, Prefix<F>, FamilyMark<F>> {
+impl<F: Unicast, D: Dealing> Dealer<D, Prefix<F>, Rules<F>> {
     ghost use Rattle.lane_deal.specs.DealerSteps.{DealsBlocked, DealsFront, DealsTo, DealsUnit};
     ghost use Rattle.mrt_body.specs.Pending.{units_lent};
     ghost use Rattle.peer_units.specs.Plain.{Unit as ReplayUnit};
@@ -271,7 +271,7 @@ impl<F: Unicast, D: Dealing> Dealer<D, Prefix<F>, FamilyMark<F>> {
     }
 }
 
-impl<F: Unicast, D: Dealing> Deals for Dealer<D, Prefix<F>, FamilyMark<F>> {
+impl<F: Unicast, D: Dealing> Deals for Dealer<D, Prefix<F>, Rules<F>> {
     type Addr = F;
 
     ghost Way = { D };

@@ -6,7 +6,7 @@ use crate::receives::Receives;
 use crate::unit_list::UnitList;
 use crate::unit_producer::UnitProducer;
 use bgp_prefix::{Memory, Prefix};
-use bgp_update::{FamilyMark, Unicast};
+use bgp_update::{Rules, Unicast};
 use peer_units::UnitRef;
 use rtrb::Consumer;
 use std::alloc::Global;
@@ -20,7 +20,7 @@ const MOST_ROOM: usize = 64;
 
 /// The dealing half of a lane.
 #[derive(Drop)]
-pub struct LaneSender<P = Prefix, K = FamilyMark> {
+pub struct LaneSender<P = Prefix, K = Rules> {
     pub producer: UnitProducer<P, K>,
     /// The number of units dealt to the lane, in all rounds. Saturates at `u64::MAX`.
     pub dealt: u64,
@@ -29,9 +29,9 @@ pub struct LaneSender<P = Prefix, K = FamilyMark> {
 }
 
 /// The dealing half of a lane of a family.
-pub type LaneSenderOf<F> = LaneSender<Prefix<F>, FamilyMark<F>>;
+pub type LaneSenderOf<F> = LaneSender<Prefix<F>, Rules<F>>;
 
-impl<F: Unicast> LaneSender<Prefix<F>, FamilyMark<F>> {
+impl<F: Unicast> LaneSender<Prefix<F>, Rules<F>> {
     ghost use Rattle.lane_deal.specs.LaneSenders.{Pushed};
     ghost use Rattle.lane_deal.specs.UnitRings.{known_free};
 

@@ -5,7 +5,7 @@ ghost use Rattle.std.specs.Prelude.{◌≡◌, true, IfOk};
 ghost use Rattle.lane_deal.specs.ListedUnits.{AreKept, IsListedAt};
 
 use bgp_prefix::{Memory, Prefix};
-use bgp_update::{FamilyMark, Span};
+use bgp_update::{Rules, Span};
 use peer_units::{Payload, PeerKey, Place};
 
 /// Where the record of a unit is, and the unit's time.
@@ -25,7 +25,7 @@ pub struct NumberedPeer {
 
 /// A unit of a list, in 32 bytes (IPv4): where its record, its peer and its bytes are among those of the list.
 #[derive(Drop)]
-pub struct ListedUnit<P = Prefix, K = FamilyMark> {
+pub struct ListedUnit<P = Prefix, K = Rules> {
     pub payload: Payload<Span, P, K>,
     pub entry: Option<u16>,
     pub record: u16,

@@ -11,14 +11,14 @@ ghost use Rattle.lane_deal.specs.ListedUnits.{IsListed};
 use crate::listed_unit::{ListedRecord, ListedUnit, NumberedPeer, index_of_peer, index_of_record};
 use crate::peer_unit::{PeerUnit, PeerUnitRef};
 use bgp_prefix::{Memory, Prefix};
-use bgp_update::{FamilyMark, Span, Unicast};
+use bgp_update::{Rules, Span, Unicast};
 use peer_units::{BytesRef, Payload, PayloadRef, Place, Unit, UnitRef};
 use std::alloc::Global;
 
 /// Units that were dealt to one lane, in order. Their records, their peers and their bytes are in blocks of memory of
 /// their own, so a list takes four allocations, and one more each time one of these blocks is outgrown.
 #[derive(Drop)]
-pub struct UnitList<P = Prefix, K = FamilyMark> {
+pub struct UnitList<P = Prefix, K = Rules> {
     listed: Vec<ListedUnit<P, K>>,
     records: Vec<ListedRecord>,
     /// Those of the units, and others that the list had before.
@@ -32,7 +32,7 @@ pub struct UnitList<P = Prefix, K = FamilyMark> {
 }
 
 /// Units of a family that were dealt to one lane.
-pub type UnitListOf<F> = UnitList<Prefix<F>, FamilyMark<F>>;
+pub type UnitListOf<F> = UnitList<Prefix<F>, Rules<F>>;
 
 /// How many bytes there is room for at first for each unit of a list. More are made room for as they come.
 const BYTES_EACH: usize = 64;
@@ -47,7 +47,7 @@ const MOST_PEERS: usize = 24;
 /// Lends a payload whose bytes are in this block.
 #[inline(always)]
 fn borrowed_from<'a, F: Unicast>(
-    payload: &Payload<Span, Prefix<F>, FamilyMark<F>>,
+    payload: &Payload<Span, Prefix<F>, Rules<F>>,
     block: &'a [u8],
 ) -> PayloadRef<'a, F>
     requires { BytesMeet (IsWithin (length block.now)) payload.now }
@@ -69,7 +69,7 @@ fn write_ahead<P, K>(listed: &mut [ListedUnit<P, K>], bytes: &mut [u8]) {
     bytes.fill(0);
 }
 
-impl<F: Unicast> UnitList<Prefix<F>, FamilyMark<F>> {
+impl<F: Unicast> UnitList<Prefix<F>, Rules<F>> {
     ghost use Rattle.std.specs.Prelude.{◌<◌, [], ◌∷◌, ◌++◌, MatchOption, OnOk, OnErr, slice_index_or};
     ghost use Rattle.lane_deal.specs.UnitLists.{units_of};
 

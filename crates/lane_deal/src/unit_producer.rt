@@ -10,7 +10,7 @@ ghost use Rattle.lane_deal.specs.UnitLists.{units_of, AreSmall, AreLastLengths, 
 use crate::peer_unit::NonEmptyLists;
 use crate::unit_list::{UnitList, UnitListOf};
 use bgp_prefix::{Memory, Prefix};
-use bgp_update::{FamilyMark, Unicast};
+use bgp_update::{Rules, Unicast};
 use peer_units::UnitRef;
 use rtrb::{Consumer, Producer, RingBuffer};
 use std::alloc::Global;
@@ -22,7 +22,7 @@ const MOST_UNITS: usize = 32;
 
 /// The dealer's end of a ring.
 #[derive(Drop)]
-pub struct UnitProducer<P = Prefix, K = FamilyMark> {
+pub struct UnitProducer<P = Prefix, K = Rules> {
     lists: Producer<UnitList<P, K>, Global, NonEmptyLists>,
     /// The list that is being filled.
     open_list: UnitList<P, K>,
@@ -42,7 +42,7 @@ pub struct UnitProducer<P = Prefix, K = FamilyMark> {
 }
 
 /// The dealer's end of a ring of units of a family.
-pub type UnitProducerOf<F> = UnitProducer<Prefix<F>, FamilyMark<F>>;
+pub type UnitProducerOf<F> = UnitProducer<Prefix<F>, Rules<F>>;
 
 /// Returns how many units fill a list in a ring of so many units: an eighth of them, within bounds.
 fn list_size(capacity: usize) -> usize
@@ -78,7 +78,7 @@ fn take_sum(lengths: &mut VecDeque<usize>, count: usize) -> usize
     sum
 }
 
-impl<F: Unicast> UnitProducer<Prefix<F>, FamilyMark<F>> {
+impl<F: Unicast> UnitProducer<Prefix<F>, Rules<F>> {
     ghost use Rattle.std.specs.Prelude.{◌≡◌, ◌+◌, ◌<◌, ◌≤◌, [], ◌∷◌, ◌++◌, length, IfOk, OnOk, IsTrue, ◌↔◌, false};
     ghost use Rattle.rtrb.specs.Ring.{ConsumerLooked};
     ghost use Rattle.peer_units.specs.Payloads.{IsSmallUnit};

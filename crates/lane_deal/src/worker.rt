@@ -12,7 +12,7 @@ use crate::peer_unit::NonEmptyLists;
 use crate::sessions::Sessions;
 use crate::unit_list::{UnitList, UnitListOf};
 use bgp_prefix::{Memory, Prefix};
-use bgp_update::{FamilyMark, Unicast};
+use bgp_update::{Rules, Unicast};
 use rtrb::{Consumer, Producer};
 use std::alloc::Global;
 use std::sync::atomic::{AtomicBool, Ordering};
@@ -20,7 +20,7 @@ use std::thread::{Threads, join_mut};
 
 /// The taking half of a lane.
 #[derive(Drop)]
-pub struct Worker<S, P = Prefix, K = FamilyMark> {
+pub struct Worker<S, P = Prefix, K = Rules> {
     pub lane: usize,
     pub consumer: Consumer<UnitList<P, K>, Global, NonEmptyLists>,
     pub sessions: S,
@@ -30,7 +30,7 @@ pub struct Worker<S, P = Prefix, K = FamilyMark> {
 }
 
 /// The taking half of a lane of a family.
-pub type WorkerOf<S, F> = Worker<S, Prefix<F>, FamilyMark<F>>;
+pub type WorkerOf<S, F> = Worker<S, Prefix<F>, Rules<F>>;
 
 /// How long a worker keeps looking in one round.
 #[derive(Clone, Copy)]
@@ -55,7 +55,7 @@ fn decode_all<F: Unicast>(
     Ok(())
 }
 
-impl<F: Unicast, S: Sessions<Addr = F>> Worker<S, Prefix<F>, FamilyMark<F>> {
+impl<F: Unicast, S: Sessions<Addr = F>> Worker<S, Prefix<F>, Rules<F>> {
     ghost use Rattle.lane_deal.specs.LaneWorkers.{Took, TookFront, TookSome, Takes};
     ghost use Rattle.lane_deal.specs.UnitRings.{known_items, known_lists, received};
 
@@ -172,7 +172,7 @@ impl<F: Unicast, S: Sessions<Addr = F>> Worker<S, Prefix<F>, FamilyMark<F>> {
     }
 }
 
-impl<F: Unicast, S: Sessions<Addr = F>> Works for Worker<S, Prefix<F>, FamilyMark<F>> {
+impl<F: Unicast, S: Sessions<Addr = F>> Works for Worker<S, Prefix<F>, Rules<F>> {
     ghost use Rattle.lane_deal.specs.LaneWorkers.{Worked};
 
     ghost worked = { Worked S.stands_for };

@@ -13,7 +13,7 @@ use lane_deal::{ByTurns, Dealing, NoGate, Plan, Replayer, Step};
 use mrt_body::Units;
 use mrt_frame::{Counted, ReplayError, Source};
 use peer_units::Selection;
-use rib_report::{AddressForm, AddressForms, Tables, churn, table_rows, write_churn, write_rows};
+use rib_report::{AddressForm, Layout, Tables, churn, table_rows, write_churn, write_rows};
 use std::alloc::Global;
 use std::marker::Sync;
 use std::process::Abort;
@@ -265,7 +265,7 @@ fn write_text<M: PrefixMap<RouteId, Addr = u32>>(
     tables: &Tables<M>,
     out: &mut Counted<Vec<u8>>,
 ) -> Result<(), ReplayError> {
-    let full = AddressForms::all(AddressForm::Full);
+    let full = Layout::all(AddressForm::Full);
     write_rows(out, full, table_rows(alloc, tables)?.as_slice())?;
     write_churn(out, full, churn(alloc, tables)?.as_slice())
 }

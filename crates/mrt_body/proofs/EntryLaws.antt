@@ -14,7 +14,7 @@ use Rattle.bgp_update.specs.Results.{Fails}
 use Rattle.bgp_update.specs.declared.attr_error.AttrError.{AttrError}
 use Rattle.bgp_update.specs.declared.attr_error.AttrError.TheVariants as errors
 use Rattle.bgp_update.specs.Keys.{octets_at, prefix_of}
-use Rattle.bgp_update.specs.Families.{FamilyOf}
+use Rattle.bgp_update.specs.Families.{FamilyOf, Rules}
 use Rattle.bgp_update.proofs.Readings.{mapped_err}
 use Rattle.peer_units.specs.declared.unit.PeerKey.{PeerKey}
 use Rattle.peer_units.specs.Plain.{Unit as ReplayUnit}
@@ -130,81 +130,81 @@ written_entries (Ok ws) es e = (ws, refl, ok_is (map read_of ws) es e)
 written_entries (Err fault) es e = absurd cc
 
 -- the units of entries, the first of which has this number
-abbrev read_units : FamilyOf → RecordAt → List PeerKey → IpPrefix → ℕ → List ReadEntry → List ReplayUnit
-read_units family at peers prefix number [] = []
-read_units family at peers prefix number (e ∷ entries) = read_unit family at peers prefix number e ∷ read_units family at peers prefix (number + 1) entries
+abbrev read_units : Rules → RecordAt → List PeerKey → IpPrefix → ℕ → List ReadEntry → List ReplayUnit
+read_units rules at peers prefix number [] = []
+read_units rules at peers prefix number (e ∷ entries) = read_unit rules at peers prefix number e ∷ read_units rules at peers prefix (number + 1) entries
 
-written_units : (family : FamilyOf) (at : RecordAt) (peers : List PeerKey) (prefix : IpPrefix) (n : ℕ) (ws : List WrittenEntry) → entry_units family at peers prefix n ws ≡ read_units family at peers prefix n (map read_of ws)
-written_units family at peers prefix n [] = refl
-written_units family at peers prefix n (w ∷ ws) = ap (λ (units : List ReplayUnit). entry_unit family at peers prefix n w ∷ units) (written_units family at peers prefix (n + 1) ws)
+written_units : (rules : Rules) (at : RecordAt) (peers : List PeerKey) (prefix : IpPrefix) (n : ℕ) (ws : List WrittenEntry) → entry_units rules at peers prefix n ws ≡ read_units rules at peers prefix n (map read_of ws)
+written_units rules at peers prefix n [] = refl
+written_units rules at peers prefix n (w ∷ ws) = ap (λ (units : List ReplayUnit). entry_unit rules at peers prefix n w ∷ units) (written_units rules at peers prefix (n + 1) ws)
 
 -- where they are numbered, each has the unit of its own number
-numbered_units : (family : FamilyOf) (at : RecordAt) (peers : List PeerKey) (prefix : IpPrefix) (body : List ℕ) (n : ℕ) (list : List ListedEntry) → AreNumbered n list → read_units family at peers prefix n (map (read_listed body) list) ≡ map (listed_unit family at peers prefix body) list
-numbered_units family at peers prefix body n [] h = refl
-numbered_units family at peers prefix body n (e ∷ list) h =
-    ap (λ (k : ℕ). read_unit family at peers prefix k (read_listed body e) ∷ read_units family at peers prefix (n + 1) (map (read_listed body) list)) (sym h.0)
-    ∙ ap (λ (units : List ReplayUnit). listed_unit family at peers prefix body e ∷ units) (numbered_units family at peers prefix body (n + 1) list h.1)
+numbered_units : (rules : Rules) (at : RecordAt) (peers : List PeerKey) (prefix : IpPrefix) (body : List ℕ) (n : ℕ) (list : List ListedEntry) → AreNumbered n list → read_units rules at peers prefix n (map (read_listed body) list) ≡ map (listed_unit rules at peers prefix body) list
+numbered_units rules at peers prefix body n [] h = refl
+numbered_units rules at peers prefix body n (e ∷ list) h =
+    ap (λ (k : ℕ). read_unit rules at peers prefix k (read_listed body e) ∷ read_units rules at peers prefix (n + 1) (map (read_listed body) list)) (sym h.0)
+    ∙ ap (λ (units : List ReplayUnit). listed_unit rules at peers prefix body e ∷ units) (numbered_units rules at peers prefix body (n + 1) list h.1)
 
-module _ (family : FamilyOf) (at : RecordAt) (peers : List PeerKey) (add_path : Bool) (body : List ℕ) (prefix : IpPrefix) (count : ℕ) (rest : List ℕ) where
+module _ (rules : Rules) (at : RecordAt) (peers : List PeerKey) (add_path : Bool) (body : List ℕ) (prefix : IpPrefix) (count : ℕ) (rest : List ℕ) where
   abbrev entries_of : Result (List WrittenEntry) Fault
   entries_of = many (entry_at add_path (length peers)) count rest
 
-  rib_by_head : (head : RibHead) → rib_head_at family body ≡ Ok (head, rest) → head.count ≡ count → rib_in family add_path (length peers) body ≡ (entries_of >>= λ entries. Ok (form_of head entries))
+  rib_by_head : (head : RibHead) → rib_head_at rules.family body ≡ Ok (head, rest) → head.count ≡ count → rib_in rules.family add_path (length peers) body ≡ (entries_of >>= λ entries. Ok (form_of head entries))
   unfolding rib_in
   rib_by_head head h same = rw h (ap (λ (n : ℕ). many (entry_at add_path (length peers)) n rest >>= λ entries. Ok (form_of head entries)) same)
 
   -- the units of a record are those of what is kept of its entries
-  units_read : (es : List ReadEntry) → read_head_at family body ≡ Ok (summary prefix count, rest) → many (read_entry_at add_path (length peers)) count rest ≡ Ok es → rib_units_in family at add_path (Some peers) body ≡ Ok (read_units family at peers prefix 1 es)
+  units_read : (es : List ReadEntry) → read_head_at rules.family body ≡ Ok (summary prefix count, rest) → many (read_entry_at add_path (length peers)) count rest ≡ Ok es → rib_units_in rules at add_path (Some peers) body ≡ Ok (read_units rules at peers prefix 1 es)
   units_read es h e =
-      let s = head_is family body prefix count rest h in
+      let s = head_is rules.family body prefix count rest h in
       let w = written_entries entries_of es (sym (read_entries add_path (length peers) count rest) ∙ e) in
-      let all : rib_in family add_path (length peers) body ≡ Ok (form_of s.0 w.0) = rib_by_head s.0 s.1 s.3 ∙ ap (λ (r : Result (List WrittenEntry) Fault). r >>= λ entries. Ok (form_of s.0 entries)) w.1 in
-      ap (λ (r : Result RibForm Fault). r >>= λ form. Ok (rib_units family at (Some peers) form)) all
-      ∙ ap (λ (p : IpPrefix). done (entry_units family at peers p 1 w.0)) s.2
-      ∙ ap (λ (units : List ReplayUnit). done units) (written_units family at peers prefix 1 w.0 ∙ ap (read_units family at peers prefix 1) w.2)
+      let all : rib_in rules.family add_path (length peers) body ≡ Ok (form_of s.0 w.0) = rib_by_head s.0 s.1 s.3 ∙ ap (λ (r : Result (List WrittenEntry) Fault). r >>= λ entries. Ok (form_of s.0 entries)) w.1 in
+      ap (λ (r : Result RibForm Fault). r >>= λ form. Ok (rib_units rules at (Some peers) form)) all
+      ∙ ap (λ (p : IpPrefix). done (entry_units rules at peers p 1 w.0)) s.2
+      ∙ ap (λ (units : List ReplayUnit). done units) (written_units rules at peers prefix 1 w.0 ∙ ap (read_units rules at peers prefix 1) w.2)
 
-  pub units_fail : (fault : Fault) → read_head_at family body ≡ Ok (summary prefix count, rest) → many (read_entry_at add_path (length peers)) count rest ≡ Err fault → rib_units_in family at add_path (Some peers) body ≡ Err fault
+  pub units_fail : (fault : Fault) → read_head_at rules.family body ≡ Ok (summary prefix count, rest) → many (read_entry_at add_path (length peers)) count rest ≡ Err fault → rib_units_in rules at add_path (Some peers) body ≡ Err fault
   units_fail fault h e =
-      let s = head_is family body prefix count rest h in
+      let s = head_is rules.family body prefix count rest h in
       let broken = mapped_err entries_of (map read_of) fault (sym (read_entries add_path (length peers) count rest) ∙ e) in
-      let all : rib_in family add_path (length peers) body ≡ Err fault = rib_by_head s.0 s.1 s.3 ∙ ap (λ (r : Result (List WrittenEntry) Fault). r >>= λ entries. Ok (form_of s.0 entries)) broken in
-      ap (λ (r : Result RibForm Fault). r >>= λ form. Ok (rib_units family at (Some peers) form)) all
+      let all : rib_in rules.family add_path (length peers) body ≡ Err fault = rib_by_head s.0 s.1 s.3 ∙ ap (λ (r : Result (List WrittenEntry) Fault). r >>= λ entries. Ok (form_of s.0 entries)) broken in
+      ap (λ (r : Result RibForm Fault). r >>= λ form. Ok (rib_units rules at (Some peers) form)) all
 
-  rest_is : read_head_at family body ≡ Ok (summary prefix count, rest) → drop (length body - length rest) body ≡ rest
-  rest_is h = behind-drop body rest (read_head_behind family body prefix count rest h)
+  rest_is : read_head_at rules.family body ≡ Ok (summary prefix count, rest) → drop (length body - length rest) body ≡ rest
+  rest_is h = behind-drop body rest (read_head_behind rules.family body prefix count rest h)
 
-  pub rest-le : read_head_at family body ≡ Ok (summary prefix count, rest) → length rest ≤ length body
-  rest-le h = behind-le body rest (read_head_behind family body prefix count rest h)
+  pub rest-le : read_head_at rules.family body ≡ Ok (summary prefix count, rest) → length rest ≤ length body
+  rest-le h = behind-le body rest (read_head_behind rules.family body prefix count rest h)
 
-  from_rest : read_head_at family body ≡ Ok (summary prefix count, rest) → many (read_entry_at add_path (length peers)) count rest ≡ many (read_entry_at add_path (length peers)) count (drop (length body - length rest) body)
+  from_rest : read_head_at rules.family body ≡ Ok (summary prefix count, rest) → many (read_entry_at add_path (length peers)) count rest ≡ many (read_entry_at add_path (length peers)) count (drop (length body - length rest) body)
   from_rest h = ap (many (read_entry_at add_path (length peers)) count) (sym (rest_is h))
 
   -- the record whose entries are listed
-  pub all_units : (list : List ListedEntry) → read_head_at family body ≡ Ok (summary prefix count, rest) → many (read_entry_at add_path (length peers)) count (drop (length body - length rest) body) ≡ Ok (map (read_listed body) list) → AreNumbered 1 list
-      → rib_units_in family at add_path (Some peers) body ≡ Ok (units_left family peers list (record { at = at; prefix = prefix; body = body; given = 0 }))
+  pub all_units : (list : List ListedEntry) → read_head_at rules.family body ≡ Ok (summary prefix count, rest) → many (read_entry_at add_path (length peers)) count (drop (length body - length rest) body) ≡ Ok (map (read_listed body) list) → AreNumbered 1 list
+      → rib_units_in rules at add_path (Some peers) body ≡ Ok (units_left peers list (record { at = at; rules = rules; prefix = prefix; body = body; given = 0 }))
   all_units list h e numbers =
       units_read (map (read_listed body) list) h (from_rest h ∙ e)
-      ∙ ap (λ (units : List ReplayUnit). done units) (numbered_units family at peers prefix body 1 list numbers)
+      ∙ ap (λ (units : List ReplayUnit). done units) (numbered_units rules at peers prefix body 1 list numbers)
 
   pub all_listed : (list : List ListedEntry) → count ≤ 65535 → many (read_entry_at add_path (length peers)) count (drop (length body - length rest) body) ≡ Ok (map (read_listed body) list) → All (IsListed (length peers) (length body)) list
-      → AreListed peers list (record { at = at; prefix = prefix; body = body; given = 0 })
+      → AreListed peers list (record { at = at; rules = rules; prefix = prefix; body = body; given = 0 })
   all_listed list few e within = record {
     given = omega arith;
     few = omega (arith, few, many-length (read_entry_at add_path (length peers)) count (drop (length body - length rest) body) (map (read_listed body) list) e, length-map list (read_listed body));
     within = within;
   }
 
-  pub no_units : (error : AttrError) → read_head_at family body ≡ Ok (summary prefix count, rest) → Fails error (many (read_entry_at add_path (length peers)) count (drop (length body - length rest) body)) → Fails error (rib_units_in family at add_path (Some peers) body)
+  pub no_units : (error : AttrError) → read_head_at rules.family body ≡ Ok (summary prefix count, rest) → Fails error (many (read_entry_at add_path (length peers)) count (drop (length body - length rest) body)) → Fails error (rib_units_in rules at add_path (Some peers) body)
   no_units errors.Memory h f = tt
   no_units (errors.Bad fault) h f = units_fail fault h (from_rest h ∙ f)
 
-pub units_fail_early : (family : FamilyOf) (at : RecordAt) (peers : List PeerKey) (add_path : Bool) (body : List ℕ) (fault : Fault) → read_head_at family body ≡ Err fault → rib_units_in family at add_path (Some peers) body ≡ Err fault
-units_fail_early family at peers add_path body fault h = ap (λ (r : Result RibForm Fault). r >>= λ form. Ok (rib_units family at (Some peers) form)) (head_fails family add_path (length peers) body fault h)
+pub units_fail_early : (rules : Rules) (at : RecordAt) (peers : List PeerKey) (add_path : Bool) (body : List ℕ) (fault : Fault) → read_head_at rules.family body ≡ Err fault → rib_units_in rules at add_path (Some peers) body ≡ Err fault
+units_fail_early rules at peers add_path body fault h = ap (λ (r : Result RibForm Fault). r >>= λ form. Ok (rib_units rules at (Some peers) form)) (head_fails rules.family add_path (length peers) body fault h)
 
 -- ---- how many there are
 
 -- at most as many as are listed
-pub units_left-few : (family : FamilyOf) (peers : List PeerKey) (list : List ListedEntry) (r : RibRecord) → AreListed peers list r → length (units_left family peers list r) ≤ 65535
-units_left-few family peers list r h =
+pub units_left-few : (peers : List PeerKey) (list : List ListedEntry) (r : RibRecord) → AreListed peers list r → length (units_left peers list r) ≤ 65535
+units_left-few peers list r h =
     let few = h.few in
-    omega (arith, few, length-map (drop r.given list) (listed_unit family r.at peers r.prefix r.body), length-drop r.given list)
+    omega (arith, few, length-map (drop r.given list) (listed_unit r.rules r.at peers r.prefix r.body), length-drop r.given list)

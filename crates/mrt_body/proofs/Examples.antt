@@ -7,7 +7,8 @@ use Rattle.mrt_frame.specs.declared.fault.Fault.{Fault}
 use Rattle.mrt_frame.specs.declared.fault.Fault.TheVariants.{ShortBody, ShortRecord, TrailingBytes, BadFamily, NoPeerIndex, BadPeerIndex, BadPrefix, BadMarker, BadLength, BadAttribute}
 use Rattle.mrt_frame.specs.Cuts.{cuts, cuts_within}
 use Rattle.mrt_frame.specs.Fields.{items_after}
-use Rattle.bgp_update.specs.Families.{FamilyOf, ipv4, ipv6}
+use Rattle.bgp_update.specs.Families.{FamilyOf, ipv4, ipv6, rules_of}
+use Rattle.bgp_update.specs.KeptAttributes.{no_attributes}
 use Rattle.bgp_update.specs.declared.width.Width.TheVariants.{Four}
 use Rattle.bgp_update.specs.declared.path.SegmentKind.TheVariants.{AsSequence}
 use Rattle.bgp_update.specs.declared.route.Origin.TheVariants.{Igp}
@@ -57,7 +58,7 @@ heard file time payload = found.Unit (record { place = record { file = file; off
 
 -- an entry of the record behind the table of peers, and the peers of that
 abbrev entry : ℕ → PeerKey → RouteKey → List ℕ → FamilyOf → Found
-entry number peer key attributes family = found.Unit (record { place = record { file = 0; offset = 56; entry = Some number }; time = 3000000; peer = peer; payload = Entry key attributes family })
+entry number peer key attributes family = found.Unit (record { place = record { file = 0; offset = 56; entry = Some number }; time = 3000000; peer = peer; payload = Entry (rules_of family no_attributes) key attributes })
 
 abbrev first_peer : PeerKey
 first_peer = record { asn = 65000; addr = V6 0x20010DB8000000000000000000000001 }
@@ -75,7 +76,7 @@ abbrev refused_at : ℕ → ℕ → Fault → Found
 refused_at file offset fault = found.Refused (record { place = record { file = file; offset = offset; entry = None }; fault = fault })
 
 abbrev heard_announcement : ℕ → FamilyOf → Found
-heard_announcement file family = heard file 1000000 (Message (drop 32 announcement) Four false family)
+heard_announcement file family = heard file 1000000 (Message (drop 32 announcement) Four false (rules_of family no_attributes))
 
 -- with identifier 7: one entry, and an UPDATE of second 1 that announces 10.0.0.0/8
 abbrev path_record : List ℕ
@@ -89,7 +90,7 @@ units_of_ipv4 : AreFound (
     ∷ (all_units, state_change (hex (codes "0006 0001")) ∷ [], heard 0 2000000 (State 6 1 Recorded) ∷ [])
     ∷ (all_units, (peer_table ++ rib_record) ∷ [], first_entry ∷ second_entry ∷ [])
     ∷ (all_units, (peer_table ++ path_record) ∷ [], entry 1 first_peer (ten 7) plain_attributes ipv4 ∷ [])
-    ∷ (all_units, path_announcement ∷ [], heard 0 1000000 (Message (drop 32 path_announcement) Four true ipv4) ∷ [])
+    ∷ (all_units, path_announcement ∷ [], heard 0 1000000 (Message (drop 32 path_announcement) Four true (rules_of ipv4 no_attributes)) ∷ [])
     -- an index holds in its own file alone
     ∷ (all_units, (peer_table ++ rib_record) ∷ announcement ∷ rib_record ∷ [], first_entry ∷ second_entry ∷ heard_announcement 1 ipv4 ∷ refused_at 2 0 NoPeerIndex ∷ [])
     ∷ (all_units, rib_record ∷ [], refused_at 0 0 NoPeerIndex ∷ [])
@@ -138,7 +139,7 @@ shares = refl
 -- ---- IPv6
 
 -- where no family is named it is IPv4
-unnamed : all_units ≡ all_of ipv4
+unnamed : all_units ≡ all_of (rules_of ipv4 no_attributes)
 unnamed = refl
 
 -- origin IGP, path 65000, and an MP_REACH_NLRI of this length and value
@@ -154,13 +155,13 @@ wide_record = hex (codes "00000003 000D 0004 00000034 00000000 20 20010DB8 0001 
 
 units_of_ipv6 : AreFound (
     -- subtype 4 is read, and subtype 10, whose entries have identifiers
-    (all_of ipv6, (peer_table ++ wide_record) ∷ [], entry 1 first_peer (documentation 0) alone_hop ipv6 ∷ [])
-    ∷ (all_of ipv6, (peer_table ++ hex (codes "00000003 000D 000A 00000038 00000000 20 20010DB8 0001 0000 00000001 00000007 0021") ++ alone_hop) ∷ [], entry 1 first_peer (documentation 7) alone_hop ipv6 ∷ [])
+    (all_of (rules_of ipv6 no_attributes), (peer_table ++ wide_record) ∷ [], entry 1 first_peer (documentation 0) alone_hop ipv6 ∷ [])
+    ∷ (all_of (rules_of ipv6 no_attributes), (peer_table ++ hex (codes "00000003 000D 000A 00000038 00000000 20 20010DB8 0001 0000 00000001 00000007 0021") ++ alone_hop) ∷ [], entry 1 first_peer (documentation 7) alone_hop ipv6 ∷ [])
     -- the records of IPv4 are set aside; messages are units of either family
-    ∷ (all_of ipv6, (peer_table ++ rib_record) ∷ [], [])
-    ∷ (all_of ipv6, announcement ∷ [], heard_announcement 0 ipv6 ∷ [])
+    ∷ (all_of (rules_of ipv6 no_attributes), (peer_table ++ rib_record) ∷ [], [])
+    ∷ (all_of (rules_of ipv6 no_attributes), announcement ∷ [], heard_announcement 0 ipv6 ∷ [])
     -- a prefix of 129 bits
-    ∷ (all_of ipv6, (peer_table ++ hex (codes "00000003 000D 0004 00000018 00000000 81 20010DB8000000000000000000000000 00 0000")) ∷ [], refused_at 0 56 BadPrefix ∷ [])
+    ∷ (all_of (rules_of ipv6 no_attributes), (peer_table ++ hex (codes "00000003 000D 0004 00000018 00000000 81 20010DB8000000000000000000000000 00 0000")) ∷ [], refused_at 0 56 BadPrefix ∷ [])
     ∷ [])
 unfolding found_in cuts cuts_within found_at body_kind_of message_unit states_unit session_peer_at session_at states_in index_in index_head_at peers_in written_peer_at rib_in rib_head_at entry_at
 units_of_ipv6 = refl
@@ -186,7 +187,7 @@ abbrev AreEvents : List (Payload × Result Event Fault) → Type 0
 AreEvents rows = map (λ (r : Payload × Result Event Fault). event_in r.0) rows ≡ map (λ (r : Payload × Result Event Fault). r.1) rows
 
 abbrev route_by : Option NextHop → Route
-route_by next_hop = record { origin = Some Igp; path = Some (record { kind = AsSequence; numbers = 65000 ∷ [] } ∷ []); next_hop = next_hop; med = None; local_pref = None; atomic = false; aggregator = None }
+route_by next_hop = record { origin = Some Igp; path = Some (record { kind = AsSequence; numbers = 65000 ∷ [] } ∷ []); next_hop = next_hop; med = None; local_pref = None; atomic = false; aggregator = None; kept = [] }
 
 abbrev announces : RouteKey → Result Event Fault
 announces key = Ok (event.Change (record { withdrawn = []; announced = key ∷ []; reached = []; route = route_by (Some (hop.V4 0xC0000201)); reached_hop = None }))
@@ -195,27 +196,27 @@ abbrev message_with : List ℕ → List ℕ → List ℕ
 message_with mark front = mark ++ front ++ plain_attributes ++ hex (codes "080A")
 
 events_of_ipv4 : AreEvents (
-    (Message (drop 32 announcement) Four false ipv4, announces (ten 0))
-    ∷ (Message (drop 32 path_announcement) Four true ipv4, announces (ten 7))
-    ∷ (Entry (ten 0) (hex (codes "40010103")) ipv4, Err (BadAttribute 1))
+    (Message (drop 32 announcement) Four false (rules_of ipv4 no_attributes), announces (ten 0))
+    ∷ (Message (drop 32 path_announcement) Four true (rules_of ipv4 no_attributes), announces (ten 7))
+    ∷ (Entry (rules_of ipv4 no_attributes) (ten 0) (hex (codes "40010103")), Err (BadAttribute 1))
     -- a marker with a byte 0, a length that isn't the message's, a KEEPALIVE, and no byte at all
-    ∷ (Message (message_with (hex (codes "00FFFFFF FFFFFFFF FFFFFFFF FFFFFFFF")) (hex (codes "002D 02 0000 0014"))) Four false ipv4, Err BadMarker)
-    ∷ (Message (message_with marker_16 (hex (codes "002C 02 0000 0014"))) Four false ipv4, Err BadLength)
-    ∷ (Message (message_with marker_16 (hex (codes "002D 04 0000 0014"))) Four false ipv4, Ok event.Other)
-    ∷ (Message [] Four false ipv4, Err BadLength)
+    ∷ (Message (message_with (hex (codes "00FFFFFF FFFFFFFF FFFFFFFF FFFFFFFF")) (hex (codes "002D 02 0000 0014"))) Four false (rules_of ipv4 no_attributes), Err BadMarker)
+    ∷ (Message (message_with marker_16 (hex (codes "002C 02 0000 0014"))) Four false (rules_of ipv4 no_attributes), Err BadLength)
+    ∷ (Message (message_with marker_16 (hex (codes "002D 04 0000 0014"))) Four false (rules_of ipv4 no_attributes), Ok event.Other)
+    ∷ (Message [] Four false (rules_of ipv4 no_attributes), Err BadLength)
     ∷ [])
 unfolding event_in message_event_in message_in update_in fields_in said_update route_keys_in keys_in written_key_at attribute_at attributes_in value_fault route_from entry_route route_in items_after reached_keys unreached_keys path_in segment_at segment_field_at
 events_of_ipv4 = refl
 
 events_of_ipv6 : AreEvents (
-    (Entry (documentation 0) alone_hop ipv6, Ok (event.Rib (documentation 0) (route_by (Some (hop.V6 0x20010DB8000000000000000000000009)))))
+    (Entry (rules_of ipv6 no_attributes) (documentation 0) alone_hop, Ok (event.Rib (documentation 0) (route_by (Some (hop.V6 0x20010DB8000000000000000000000009)))))
     -- the whole attribute, with a reserved byte and the prefix
-    ∷ (Entry (documentation 0) (attributes_with (hex (codes "1A 0002 01 10 20010DB8000000000000000000000009 00 20 20010DB8"))) ipv6, Ok (event.Rib (documentation 0) (route_by (Some (hop.V6 0x20010DB8000000000000000000000009)))))
+    ∷ (Entry (rules_of ipv6 no_attributes) (documentation 0) (attributes_with (hex (codes "1A 0002 01 10 20010DB8000000000000000000000009 00 20 20010DB8"))), Ok (event.Rib (documentation 0) (route_by (Some (hop.V6 0x20010DB8000000000000000000000009)))))
     -- a byte behind the next hop
-    ∷ (Entry (documentation 0) (attributes_with (hex (codes "12 10 20010DB8000000000000000000000009 00"))) ipv6, Err (BadAttribute 14))
+    ∷ (Entry (rules_of ipv6 no_attributes) (documentation 0) (attributes_with (hex (codes "12 10 20010DB8000000000000000000000009 00"))), Err (BadAttribute 14))
     -- NEXT_HOP alone is none of IPv6; of IPv4 it is the next hop, and MP_REACH_NLRI isn't looked at
-    ∷ (Entry (documentation 0) plain_attributes ipv6, Ok (event.Rib (documentation 0) (route_by None)))
-    ∷ (Entry (documentation 0) (plain_attributes ++ hex (codes "800E01 07")) ipv4, Ok (event.Rib (documentation 0) (route_by (Some (hop.V4 0xC0000201)))))
+    ∷ (Entry (rules_of ipv6 no_attributes) (documentation 0) plain_attributes, Ok (event.Rib (documentation 0) (route_by None)))
+    ∷ (Entry (rules_of ipv4 no_attributes) (documentation 0) (plain_attributes ++ hex (codes "800E01 07")), Ok (event.Rib (documentation 0) (route_by (Some (hop.V4 0xC0000201)))))
     ∷ [])
 unfolding event_in route_in attributes_in attribute_at value_fault route_from entry_route items_after path_in segment_at segment_field_at entry_hop_in hop_at next_hop_of
 events_of_ipv6 = refl

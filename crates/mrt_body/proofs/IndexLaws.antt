@@ -48,21 +48,21 @@ module _ (file : ℕ) (selection : UnitSelection) where
   abbrev dumps_from : Option (List PeerKey) → DumpsState → List Cut → DumpsState
   dumps_from index dumps earlier = dumps_behind_cuts file selection index dumps earlier
 
-  dumps_from-push : (index : Option (List PeerKey)) (dumps : DumpsState) (earlier : List Cut) (cut : Cut) → dumps_from index dumps (earlier ++ cut ∷ []) ≡ dumps_after file selection (index_behind selection.family index earlier) (dumps_from index dumps earlier) cut
+  dumps_from-push : (index : Option (List PeerKey)) (dumps : DumpsState) (earlier : List Cut) (cut : Cut) → dumps_from index dumps (earlier ++ cut ∷ []) ≡ dumps_after file selection (index_behind selection.rules.family index earlier) (dumps_from index dumps earlier) cut
   dumps_from-push index dumps [] cut = refl
-  dumps_from-push index dumps (c ∷ earlier) cut = dumps_from-push (index_after selection.family index c) (dumps_after file selection index dumps c) earlier cut
+  dumps_from-push index dumps (c ∷ earlier) cut = dumps_from-push (index_after selection.rules.family index c) (dumps_after file selection index dumps c) earlier cut
 
-  dumps_before-push : (dumps : DumpsState) (earlier : List Cut) (cut : Cut) → dumps_from None dumps (earlier ++ cut ∷ []) ≡ dumps_after file selection (index_before selection.family earlier) (dumps_from None dumps earlier) cut
+  dumps_before-push : (dumps : DumpsState) (earlier : List Cut) (cut : Cut) → dumps_from None dumps (earlier ++ cut ∷ []) ≡ dumps_after file selection (index_before selection.rules.family earlier) (dumps_from None dumps earlier) cut
   dumps_before-push dumps earlier cut =
       dumps_from-push None dumps earlier cut
-      ∙ ap (λ (index : Option (List PeerKey)). dumps_after file selection index (dumps_from None dumps earlier) cut) (index_before-behind selection.family [] earlier)
+      ∙ ap (λ (index : Option (List PeerKey)). dumps_after file selection index (dumps_from None dumps earlier) cut) (index_before-behind selection.rules.family [] earlier)
 
-  pub found_from-is : (dumps : DumpsState) (earlier others : List Cut) → flat_map_after (λ before cut. found_at file selection (index_before selection.family before) (dumps_from None dumps before) cut) earlier others ≡ found_from file selection (index_before selection.family earlier) (dumps_from None dumps earlier) others
+  pub found_from-is : (dumps : DumpsState) (earlier others : List Cut) → flat_map_after (λ before cut. found_at file selection (index_before selection.rules.family before) (dumps_from None dumps before) cut) earlier others ≡ found_from file selection (index_before selection.rules.family earlier) (dumps_from None dumps earlier) others
   found_from-is dumps earlier [] = refl
   found_from-is dumps earlier (cut ∷ others) =
-      ap (λ (rest : List Found). found_at file selection (index_before selection.family earlier) (dumps_from None dumps earlier) cut ++ rest)
+      ap (λ (rest : List Found). found_at file selection (index_before selection.rules.family earlier) (dumps_from None dumps earlier) cut ++ rest)
       (found_from-is dumps (earlier ++ cut ∷ []) others
-      ∙ (λ i. found_from file selection (index_before-push selection.family earlier cut i) (dumps_before-push dumps earlier cut i) others))
+      ∙ (λ i. found_from file selection (index_before-push selection.rules.family earlier cut i) (dumps_before-push dumps earlier cut i) others))
 
 -- a file's units and refusals, as a reading of it from its start goes on
 pub found_in_file-is : (selection : UnitSelection) (file : ℕ) (dumps : DumpsState) (bytes : List ℕ) → found_in_file selection file dumps bytes ≡ found_from file selection None dumps (cuts 0 bytes)

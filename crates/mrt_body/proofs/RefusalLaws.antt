@@ -4,7 +4,7 @@ use Rattle.mrt_frame.specs.declared.fault.Fault.{Fault}
 use Rattle.mrt_frame.specs.declared.fault.Fault.TheVariants.{ShortRecord, TrailingBytes, BadFamily, NoPeerIndex, BadPeerIndex, BadPrefix}
 use Rattle.mrt_frame.proofs.FieldLaws.{IsBytes}
 use Rattle.bgp_update.specs.declared.width.Width.{Width}
-use Rattle.bgp_update.specs.Families.{FamilyOf}
+use Rattle.bgp_update.specs.Families.{Rules}
 use Rattle.bgp_update.proofs.Readings.{mapped_err}
 use Rattle.mrt_body.specs.declared.record_place.RecordAt.{RecordAt}
 use Rattle.mrt_body.specs.declared.body_kind.BodyKind.{BodyKind}
@@ -25,10 +25,10 @@ use Rattle.mrt_body.proofs.AgreementLaws.{agrees, is_read}
 abbrev Units : Type 0
 Units = List ReplayUnit
 
-module _ (family : FamilyOf) (rule : StateRule) (at : RecordAt) (extended : Bool) where
+module _ (rules : Rules) (rule : StateRule) (at : RecordAt) (extended : Bool) where
   -- ---- what is refused has a fault, or a field that runs past it
 
-  index_fault : (index : Option (List PeerKey)) (body : List ℕ) (fault : Fault) → ((fault ≡ TrailingBytes) × IndexAndMore body) ⊎ (fault ≡ ShortRecord) → HasFault family rule at extended index content.IndexTable body fault ⊎ (fault ≡ ShortRecord)
+  index_fault : (index : Option (List PeerKey)) (body : List ℕ) (fault : Fault) → ((fault ≡ TrailingBytes) × IndexAndMore body) ⊎ (fault ≡ ShortRecord) → HasFault rules rule at extended index content.IndexTable body fault ⊎ (fault ≡ ShortRecord)
   index_fault index body fault (inr short) = inr short
   index_fault index body fault (inl h) = inl (
     h.0,
@@ -45,10 +45,10 @@ module _ (family : FamilyOf) (rule : StateRule) (at : RecordAt) (extended : Bool
   abbrev no_units : Units
   no_units = []
 
-  index_refused : (index : Option (List PeerKey)) (body : List ℕ) (fault : Fault) → IsBytes body → units_in family rule at extended index content.IndexTable body ≡ Err fault → HasFault family rule at extended index content.IndexTable body fault ⊎ (fault ≡ ShortRecord)
+  index_refused : (index : Option (List PeerKey)) (body : List ℕ) (fault : Fault) → IsBytes body → units_in rules rule at extended index content.IndexTable body ≡ Err fault → HasFault rules rule at extended index content.IndexTable body fault ⊎ (fault ≡ ShortRecord)
   index_refused index body fault fine e = index_fault index body fault (peers_refused body fault fine (mapped_err (peers_in body) (λ peers. no_units) fault e))
 
-  rib_fault : (add_path : Bool) (peers : List PeerKey) (body : List ℕ) (fault : Fault) → RibFault family add_path (length peers) body fault ⊎ (fault ≡ ShortRecord) → HasRibFault family rule at extended add_path (Some peers) body fault ⊎ (fault ≡ ShortRecord)
+  rib_fault : (add_path : Bool) (peers : List PeerKey) (body : List ℕ) (fault : Fault) → RibFault rules.family add_path (length peers) body fault ⊎ (fault ≡ ShortRecord) → HasRibFault rules rule at extended add_path (Some peers) body fault ⊎ (fault ≡ ShortRecord)
   rib_fault add_path peers body fault (inr short) = inr short
   rib_fault add_path peers body fault (inl (inl h)) = inl (inl h)
   rib_fault add_path peers body fault (inl (inr (inl h))) = inl (inr (inl h))
@@ -57,19 +57,19 @@ module _ (family : FamilyOf) (rule : StateRule) (at : RecordAt) (extended : Bool
     record {
       front = rib_bytes add_path h.1.form;
       more = h.1.more;
-      units = rib_units family at (Some peers) h.1.form;
+      units = rib_units rules at (Some peers) h.1.form;
       parts = h.1.parts;
       some = h.1.some;
       agrees = record { form = h.1.form; fits = h.1.fits; spelled = refl; said = refl };
     },
   )))
 
-  rib_is_refused : (add_path : Bool) (index : Option (List PeerKey)) (body : List ℕ) (fault : Fault) → IsBytes body → units_in family rule at extended index (content.Rib add_path) body ≡ Err fault → HasRibFault family rule at extended add_path index body fault ⊎ (fault ≡ ShortRecord)
+  rib_is_refused : (add_path : Bool) (index : Option (List PeerKey)) (body : List ℕ) (fault : Fault) → IsBytes body → units_in rules rule at extended index (content.Rib add_path) body ≡ Err fault → HasRibFault rules rule at extended add_path index body fault ⊎ (fault ≡ ShortRecord)
   rib_is_refused add_path None body fault fine e = inl cc
   rib_is_refused add_path (Some peers) body fault fine e =
-      rib_fault add_path peers body fault (rib_refused family add_path (length peers) body fault fine (mapped_err (rib_in family add_path (length peers) body) (rib_units family at (Some peers)) fault e))
+      rib_fault add_path peers body fault (rib_refused rules.family add_path (length peers) body fault fine (mapped_err (rib_in rules.family add_path (length peers) body) (rib_units rules at (Some peers)) fault e))
 
-  states_fault : (index : Option (List PeerKey)) (width : Width) (body : List ℕ) (fault : Fault) → ChangeFault rule at extended width body fault ⊎ (fault ≡ ShortRecord) → HasFault family rule at extended index (content.States width) body fault ⊎ (fault ≡ ShortRecord)
+  states_fault : (index : Option (List PeerKey)) (width : Width) (body : List ℕ) (fault : Fault) → ChangeFault rule at extended width body fault ⊎ (fault ≡ ShortRecord) → HasFault rules rule at extended index (content.States width) body fault ⊎ (fault ≡ ShortRecord)
   states_fault index width body fault (inr short) = inr short
   states_fault index width body fault (inl (inl h)) = inl (inl h)
   states_fault index width body fault (inl (inr h)) = inl (inr (
@@ -84,39 +84,39 @@ module _ (family : FamilyOf) (rule : StateRule) (at : RecordAt) (extended : Bool
     },
   ))
 
-  refused : (index : Option (List PeerKey)) (c : BodyKind) (body : List ℕ) (fault : Fault) → IsBytes body → units_in family rule at extended index c body ≡ Err fault → HasFault family rule at extended index c body fault ⊎ (fault ≡ ShortRecord)
+  refused : (index : Option (List PeerKey)) (c : BodyKind) (body : List ℕ) (fault : Fault) → IsBytes body → units_in rules rule at extended index c body ≡ Err fault → HasFault rules rule at extended index c body fault ⊎ (fault ≡ ShortRecord)
   refused index content.IndexTable body fault fine e = index_refused index body fault fine e
   refused index (content.Rib add_path) body fault fine e = rib_is_refused add_path index body fault fine e
-  refused index (content.Message width add_path) body fault fine e = message_refused family at extended width add_path body fault fine (mapped_err (message_unit family at extended width add_path body) (λ unit. unit ∷ []) fault e)
+  refused index (content.Message width add_path) body fault fine e = message_refused rules at extended width add_path body fault fine (mapped_err (message_unit rules at extended width add_path body) (λ unit. unit ∷ []) fault e)
   refused index (content.States width) body fault fine e = states_fault index width body fault (change_refused rule at extended width body fault fine (mapped_err (states_unit rule at extended width body) (λ unit. unit ∷ []) fault e))
   refused index content.Aside body fault fine e = absurd cc
 
   -- ---- what has a fault is refused for it
 
-  rib_has_fault : (add_path : Bool) (index : Option (List PeerKey)) (body : List ℕ) (fault : Fault) → HasRibFault family rule at extended add_path index body fault → units_in family rule at extended index (content.Rib add_path) body ≡ Err fault
+  rib_has_fault : (add_path : Bool) (index : Option (List PeerKey)) (body : List ℕ) (fault : Fault) → HasRibFault rules rule at extended add_path index body fault → units_in rules rule at extended index (content.Rib add_path) body ≡ Err fault
   rib_has_fault add_path None body fault h = ap (λ (f : Fault). Err f) (sym h)
-  rib_has_fault add_path (Some peers) body fault (inl h) = rw (bad_prefix_refused family add_path (length peers) body h.1) (ap (λ (f : Fault). Err f) (sym h.0))
-  rib_has_fault add_path (Some peers) body fault (inr (inl h)) = rw (unknown_peer_refused family add_path (length peers) body h.1) (ap (λ (f : Fault). Err f) (sym h.0))
+  rib_has_fault add_path (Some peers) body fault (inl h) = rw (bad_prefix_refused rules.family add_path (length peers) body h.1) (ap (λ (f : Fault). Err f) (sym h.0))
+  rib_has_fault add_path (Some peers) body fault (inr (inl h)) = rw (unknown_peer_refused rules.family add_path (length peers) body h.1) (ap (λ (f : Fault). Err f) (sym h.0))
   rib_has_fault add_path (Some peers) body fault (inr (inr h)) =
       let m = h.1 in
-      let front : IsRibBody family at add_path peers m.front m.units = m.agrees in
-      let read : rib_in family add_path (length peers) body ≡ Err TrailingBytes = ap (rib_in family add_path (length peers)) (m.parts ∙ ap (λ (l : List ℕ). l ++ m.more) front.spelled) ∙ rib_goes_on family add_path (length peers) front.form m.more front.fits m.some in
+      let front : IsRibBody rules at add_path peers m.front m.units = m.agrees in
+      let read : rib_in rules.family add_path (length peers) body ≡ Err TrailingBytes = ap (rib_in rules.family add_path (length peers)) (m.parts ∙ ap (λ (l : List ℕ). l ++ m.more) front.spelled) ∙ rib_goes_on rules.family add_path (length peers) front.form m.more front.fits m.some in
       rw read (ap (λ (f : Fault). Err f) (sym h.0))
 
-  has_fault : (index : Option (List PeerKey)) (c : BodyKind) (body : List ℕ) (fault : Fault) → HasFault family rule at extended index c body fault → units_in family rule at extended index c body ≡ Err fault
+  has_fault : (index : Option (List PeerKey)) (c : BodyKind) (body : List ℕ) (fault : Fault) → HasFault rules rule at extended index c body fault → units_in rules rule at extended index c body ≡ Err fault
   has_fault index content.IndexTable body fault h =
       let m = h.1 in
       let read : peers_in body ≡ Err TrailingBytes = ap peers_in m.parts ∙ peers_go_on m.front m.more m.agrees.0.0 m.agrees.0.1 m.some in
       rw read (ap (λ (f : Fault). Err f) (sym h.0))
   has_fault index (content.Rib add_path) body fault h = rib_has_fault add_path index body fault h
-  has_fault index (content.Message width add_path) body fault h = rw (message_other family at extended width add_path body h.1) (ap (λ (f : Fault). Err f) (sym h.0))
+  has_fault index (content.Message width add_path) body fault h = rw (message_other rules at extended width add_path body h.1) (ap (λ (f : Fault). Err f) (sym h.0))
   has_fault index (content.States width) body fault (inl h) = rw (change_other rule at extended width body h.1) (ap (λ (f : Fault). Err f) (sym h.0))
   has_fault index (content.States width) body fault (inr h) =
       let m = h.1 in
       rw (change_goes_on rule at extended width body m.front m.more m.agrees.0 m.parts m.some m.agrees.1) (ap (λ (f : Fault). Err f) (sym h.0))
   has_fault index content.Aside body fault h = absurd h
 
-  rib_not_short : (add_path : Bool) (index : Option (List PeerKey)) (body : List ℕ) → HasRibFault family rule at extended add_path index body ShortRecord → ⊥
+  rib_not_short : (add_path : Bool) (index : Option (List PeerKey)) (body : List ℕ) → HasRibFault rules rule at extended add_path index body ShortRecord → ⊥
   rib_not_short add_path None body h = differs h
     where
       differs : ShortRecord ≡ NoPeerIndex → ⊥
@@ -125,7 +125,7 @@ module _ (family : FamilyOf) (rule : StateRule) (at : RecordAt) (extended : Bool
   rib_not_short add_path (Some peers) body (inr (inl h)) = let e : ShortRecord ≡ BadPeerIndex = h.0 in cc
   rib_not_short add_path (Some peers) body (inr (inr h)) = let e : ShortRecord ≡ TrailingBytes = h.0 in cc
 
-  not_short : (index : Option (List PeerKey)) (c : BodyKind) (body : List ℕ) → HasFault family rule at extended index c body ShortRecord → ⊥
+  not_short : (index : Option (List PeerKey)) (c : BodyKind) (body : List ℕ) → HasFault rules rule at extended index c body ShortRecord → ⊥
   not_short index content.IndexTable body h = let e : ShortRecord ≡ TrailingBytes = h.0 in cc
   not_short index (content.Rib add_path) body h = rib_not_short add_path index body h
   not_short index (content.Message width add_path) body h = let e : ShortRecord ≡ BadFamily = h.0 in cc
@@ -144,25 +144,25 @@ module _ (family : FamilyOf) (rule : StateRule) (at : RecordAt) (extended : Bool
   same_fault a b (Err fault) e h = cc
 
   module _ (index : Option (List PeerKey)) (c : BodyKind) (body : List ℕ) (fault : Fault) where
-    pub is_refused : IsBytes body → units_in family rule at extended index c body ≡ Err fault → IsRefused family rule at extended index c body fault
+    pub is_refused : IsBytes body → units_in rules rule at extended index c body ≡ Err fault → IsRefused rules rule at extended index c body fault
     is_refused fine e = by_fault (refused index c body fault fine e)
       where
-        by_fault : HasFault family rule at extended index c body fault ⊎ (fault ≡ ShortRecord) → IsRefused family rule at extended index c body fault
+        by_fault : HasFault rules rule at extended index c body fault ⊎ (fault ≡ ShortRecord) → IsRefused rules rule at extended index c body fault
         by_fault (inl h) = inl h
         by_fault (inr short) = inr (
           short,
-          λ units a. not_both units fault (units_in family rule at extended index c body) (is_read family rule at extended index c body units a) e,
-          λ other h. not_short index c body (subst (HasFault family rule at extended index c body) (same_fault other fault (units_in family rule at extended index c body) (has_fault index c body other h) e ∙ short) h),
+          λ units a. not_both units fault (units_in rules rule at extended index c body) (is_read rules rule at extended index c body units a) e,
+          λ other h. not_short index c body (subst (HasFault rules rule at extended index c body) (same_fault other fault (units_in rules rule at extended index c body) (has_fault index c body other h) e ∙ short) h),
         )
 
-    pub refusal : IsBytes body → IsRefused family rule at extended index c body fault → units_in family rule at extended index c body ≡ Err fault
+    pub refusal : IsBytes body → IsRefused rules rule at extended index c body fault → units_in rules rule at extended index c body ≡ Err fault
     refusal fine (inl h) = has_fault index c body fault h
-    refusal fine (inr h) = by_units (units_in family rule at extended index c body) refl
+    refusal fine (inr h) = by_units (units_in rules rule at extended index c body) refl
       where
-        by_fault : (other : Fault) → units_in family rule at extended index c body ≡ Err other → HasFault family rule at extended index c body other ⊎ (other ≡ ShortRecord) → units_in family rule at extended index c body ≡ Err fault
+        by_fault : (other : Fault) → units_in rules rule at extended index c body ≡ Err other → HasFault rules rule at extended index c body other ⊎ (other ≡ ShortRecord) → units_in rules rule at extended index c body ≡ Err fault
         by_fault other is (inl f) = absurd (h.2 other f)
         by_fault other is (inr short) = is ∙ ap (λ (f : Fault). Err f) (short ∙ sym h.0)
 
-        by_units : (r : Result Units Fault) → units_in family rule at extended index c body ≡ r → units_in family rule at extended index c body ≡ Err fault
-        by_units (Ok units) is = absurd (h.1 units (agrees family rule at extended index c body units fine is))
+        by_units : (r : Result Units Fault) → units_in rules rule at extended index c body ≡ r → units_in rules rule at extended index c body ≡ Err fault
+        by_units (Ok units) is = absurd (h.1 units (agrees rules rule at extended index c body units fine is))
         by_units (Err other) is = by_fault other is (refused index c body other fine is)

@@ -10,7 +10,7 @@ use Rattle.mrt_frame.specs.Fields.{◌>>=◌, byte_at, number_at, bytes_at}
 use Rattle.mrt_frame.proofs.Items.{bind_ok, guard_ok, ok_is}
 use Rattle.mrt_frame.proofs.FieldLaws.{IsBytes, IsBytes-drop, TakesNumber, byte_at-takes, byte_at-again, number_takes, number_at-again, bytes_at-takes, bytes_at-again}
 use Rattle.bgp_update.specs.Keys.{octets_at}
-use Rattle.bgp_update.specs.Families.{FamilyOf}
+use Rattle.bgp_update.specs.Families.{FamilyOf, Rules}
 use Rattle.mrt_body.specs.declared.record_place.RecordAt.{RecordAt}
 use Rattle.peer_units.specs.declared.unit.PeerKey.{PeerKey}
 use Rattle.peer_units.specs.Plain.{Unit as ReplayUnit}
@@ -184,15 +184,15 @@ rib_again family add_path peers form h =
 
 -- ---- the units of a record beside the index in force
 
-pub rib_body-is : (family : FamilyOf) (at : RecordAt) (add_path : Bool) (index : Option (List PeerKey)) (body : List ℕ) (units : List ReplayUnit) → IsBytes body → rib_units_in family at add_path index body ≡ Ok units → IsRibBodyBeside family at add_path index body units
-rib_body-is family at add_path None body units fine e = absurd cc
-rib_body-is family at add_path (Some peers) body units fine e =
-    let f = bind_ok (rib_in family add_path (length peers) body) (λ form. Ok (rib_units family at (Some peers) form)) units e in
-    let t = rib_takes family add_path (length peers) body f.0 fine f.1 in
-    record { form = f.0; fits = t.fits; spelled = t.parts; said = sym (ok_is (rib_units family at (Some peers) f.0) units f.2) }
+pub rib_body-is : (rules : Rules) (at : RecordAt) (add_path : Bool) (index : Option (List PeerKey)) (body : List ℕ) (units : List ReplayUnit) → IsBytes body → rib_units_in rules at add_path index body ≡ Ok units → IsRibBodyBeside rules at add_path index body units
+rib_body-is rules at add_path None body units fine e = absurd cc
+rib_body-is rules at add_path (Some peers) body units fine e =
+    let f = bind_ok (rib_in rules.family add_path (length peers) body) (λ form. Ok (rib_units rules at (Some peers) form)) units e in
+    let t = rib_takes rules.family add_path (length peers) body f.0 fine f.1 in
+    record { form = f.0; fits = t.fits; spelled = t.parts; said = sym (ok_is (rib_units rules at (Some peers) f.0) units f.2) }
 
-pub rib_body-again : (family : FamilyOf) (at : RecordAt) (add_path : Bool) (index : Option (List PeerKey)) (body : List ℕ) (units : List ReplayUnit) → IsRibBodyBeside family at add_path index body units → rib_units_in family at add_path index body ≡ Ok units
-rib_body-again family at add_path None body units h = absurd h
-rib_body-again family at add_path (Some peers) body units h =
-    let read : rib_in family add_path (length peers) body ≡ Ok h.form = ap (rib_in family add_path (length peers)) h.spelled ∙ rib_again family add_path (length peers) h.form h.fits in
+pub rib_body-again : (rules : Rules) (at : RecordAt) (add_path : Bool) (index : Option (List PeerKey)) (body : List ℕ) (units : List ReplayUnit) → IsRibBodyBeside rules at add_path index body units → rib_units_in rules at add_path index body ≡ Ok units
+rib_body-again rules at add_path None body units h = absurd h
+rib_body-again rules at add_path (Some peers) body units h =
+    let read : rib_in rules.family add_path (length peers) body ≡ Ok h.form = ap (rib_in rules.family add_path (length peers)) h.spelled ∙ rib_again rules.family add_path (length peers) h.form h.fits in
     rw read (ap (λ (us : List ReplayUnit). Ok us) (sym h.said))

@@ -1,4 +1,4 @@
--- Each state change that a selection gives has the rule that it asks for, and each message and entry the family; and
+-- Each state change that a selection gives has the rule that it asks for, and each message and entry the rules; and
 -- where RIB dumps are added there is no clear.
 use Rattle.std.proofs.Common.{◌≡◌, ℕ, ◌+◌, ◌&&◌, not, Bool, true, false, List, [], ◌∷◌, ◌++◌, map, Option, Some, None, Result, Ok, Err, IfOk, refl, ap}
 use Rattle.std.specs.Result.{is_ok}
@@ -13,7 +13,7 @@ use Rattle.mrt_frame.specs.Cuts.{cuts}
 use Rattle.bgp_prefix.specs.Prefixes.{IpPrefix}
 use Rattle.bgp_prefix.specs.Keys.{RouteKey}
 use Rattle.bgp_update.specs.declared.width.Width.{Width}
-use Rattle.bgp_update.specs.Families.{FamilyOf}
+use Rattle.bgp_update.specs.Families.{Rules}
 use Rattle.mrt_body.specs.declared.record_place.RecordAt.{RecordAt}
 use Rattle.mrt_body.specs.declared.body_kind.BodyKind.{BodyKind}
 use Rattle.mrt_body.specs.declared.body_kind.BodyKind.TheVariants as content
@@ -30,7 +30,7 @@ use Rattle.mrt_body.specs.Indexes.{peers_in}
 use Rattle.mrt_body.specs.RibRecords.{RibForm, WrittenEntry, rib_beside, rib_prefix}
 use Rattle.mrt_body.specs.Bgp4mp.{session_peer_at, states_in, microseconds_at}
 use Rattle.peer_units.specs.Selections.{is_selected, is_past}
-use Rattle.peer_units.specs.States.{IsByRule, AreByRule, IsOfFamily, AreOfFamily}
+use Rattle.peer_units.specs.States.{IsByRule, AreByRule, IsReadBy, AreReadBy}
 use Rattle.mrt_body.specs.RibDumps.{DumpsState, no_dumps, may_begin, replaces}
 use Rattle.mrt_body.specs.Units.{begins, clear_unit, clears_at, clears_if, time_of, dumps_behind_cuts, entry_unit, entry_units, rib_units, message_unit, states_unit, units_in, found_units, at_record, is_extended, body_kind_of, found_at, index_before, found_in_file, found_in_files, found_in, unit_of, units_of, refused_at}
 use Rattle.peer_units.specs.Payloads.{is_recorded}
@@ -49,8 +49,8 @@ module _ {X Y : Type 0} (P : Y → Type 0) (f : List X → X → List Y) (each :
   all_behind before [] = All-nil P
   all_behind before (x ∷ xs) = All-append P (f before x) (flat_map_after f (before ++ x ∷ []) xs) (each before x) (all_behind (before ++ x ∷ []) xs)
 
--- what holds of the payloads of entries and messages of this family, and of state changes by this rule
-module _ (family : FamilyOf) (rule : StateRule) (P : Payload → Type 0) (entry : (key : RouteKey) (attrs : List ℕ) → P (Entry key attrs family)) (message : (bytes : List ℕ) (width : Width) (add_path : Bool) → P (Message bytes width add_path family)) (state : (from to : ℕ) → P (State from to rule)) where
+-- what holds of the payloads of entries and messages by these rules, and of state changes by this rule
+module _ (rules : Rules) (rule : StateRule) (P : Payload → Type 0) (entry : (key : RouteKey) (attrs : List ℕ) → P (Entry rules key attrs)) (message : (bytes : List ℕ) (width : Width) (add_path : Bool) → P (Message bytes width add_path rules)) (state : (from to : ℕ) → P (State from to rule)) where
   abbrev OfUnit : ReplayUnit → Type 0
   OfUnit unit = P unit.payload
 
@@ -61,15 +61,15 @@ module _ (family : FamilyOf) (rule : StateRule) (P : Payload → Type 0) (entry 
   OfFound (found.Unit unit) = P unit.payload
   OfFound (found.Refused damage) = Unit {0}
 
-  entries_by : (at : RecordAt) (peers : List PeerKey) (prefix : IpPrefix) (number : ℕ) (es : List WrittenEntry) → OfUnits (entry_units family at peers prefix number es)
+  entries_by : (at : RecordAt) (peers : List PeerKey) (prefix : IpPrefix) (number : ℕ) (es : List WrittenEntry) → OfUnits (entry_units rules at peers prefix number es)
   entries_by at peers prefix number [] = All-nil OfUnit
-  entries_by at peers prefix number (e ∷ es) = All-cons OfUnit (entry_unit family at peers prefix number e) (entry_units family at peers prefix (number + 1) es) (entry (record { prefix = prefix; id = e.identifier }) e.attributes) (entries_by at peers prefix (number + 1) es)
+  entries_by at peers prefix number (e ∷ es) = All-cons OfUnit (entry_unit rules at peers prefix number e) (entry_units rules at peers prefix (number + 1) es) (entry (record { prefix = prefix; id = e.identifier }) e.attributes) (entries_by at peers prefix (number + 1) es)
 
-  ribs_by : (at : RecordAt) (index : Option (List PeerKey)) (form : RibForm) → OfUnits (rib_units family at index form)
+  ribs_by : (at : RecordAt) (index : Option (List PeerKey)) (form : RibForm) → OfUnits (rib_units rules at index form)
   ribs_by at None form = All-nil OfUnit
   ribs_by at (Some peers) form = entries_by at peers (rib_prefix form) 1 form.entries
 
-  message_by : (at : RecordAt) (extended : Bool) (width : Width) (add_path : Bool) (body : List ℕ) → IfOk (message_unit family at extended width add_path body) OfUnit
+  message_by : (at : RecordAt) (extended : Bool) (width : Width) (add_path : Bool) (body : List ℕ) → IfOk (message_unit rules at extended width add_path body) OfUnit
   unfolding message_unit
   message_by at extended width add_path body =
       bound OfUnit (microseconds_at extended body) _ (λ m.
@@ -85,10 +85,10 @@ module _ (family : FamilyOf) (rule : StateRule) (P : Payload → Type 0) (entry 
   alone_by : (unit : ReplayUnit) → OfUnit unit → OfUnits (unit ∷ [])
   alone_by unit h = All-cons OfUnit unit [] h (All-nil OfUnit)
 
-  read_by : (at : RecordAt) (extended : Bool) (index : Option (List PeerKey)) (c : BodyKind) (body : List ℕ) → IfOk (units_in family rule at extended index c body) (OfUnits)
+  read_by : (at : RecordAt) (extended : Bool) (index : Option (List PeerKey)) (c : BodyKind) (body : List ℕ) → IfOk (units_in rules rule at extended index c body) (OfUnits)
   read_by at extended index content.IndexTable body = bound (OfUnits) (peers_in body) _ (λ peers. All-nil OfUnit)
-  read_by at extended index (content.Rib add_path) body = bound (OfUnits) (rib_beside family add_path index body) _ (λ form. ribs_by at index form)
-  read_by at extended index (content.Message width add_path) body = bound_from (OfUnits) OfUnit (message_unit family at extended width add_path body) _ (message_by at extended width add_path body) alone_by
+  read_by at extended index (content.Rib add_path) body = bound (OfUnits) (rib_beside rules.family add_path index body) _ (λ form. ribs_by at index form)
+  read_by at extended index (content.Message width add_path) body = bound_from (OfUnits) OfUnit (message_unit rules at extended width add_path body) _ (message_by at extended width add_path body) alone_by
   read_by at extended index (content.States width) body = bound_from (OfUnits) OfUnit (states_unit rule at extended width body) _ (states_by at extended width body) alone_by
   read_by at extended index content.Aside body = All-nil OfUnit
 
@@ -104,25 +104,25 @@ module _ (family : FamilyOf) (rule : StateRule) (P : Payload → Type 0) (entry 
   given_by (found.Unit unit ∷ fs) h = All-cons OfUnit unit (filter_map unit_of fs) (All-head OfFound (found.Unit unit) fs h) (given_by fs (All-tail OfFound (found.Unit unit) fs h))
   given_by (found.Refused damage ∷ fs) h = given_by fs (All-tail OfFound (found.Refused damage) fs h)
 
-module _ (selection : UnitSelection) (P : Payload → Type 0) (entry : (key : RouteKey) (attrs : List ℕ) → P (Entry key attrs selection.family)) (message : (bytes : List ℕ) (width : Width) (add_path : Bool) → P (Message bytes width add_path selection.family)) (state : (from to : ℕ) → P (State from to selection.states))
+module _ (selection : UnitSelection) (P : Payload → Type 0) (entry : (key : RouteKey) (attrs : List ℕ) → P (Entry selection.rules key attrs)) (message : (bytes : List ℕ) (width : Width) (add_path : Bool) → P (Message bytes width add_path selection.rules)) (state : (from to : ℕ) → P (State from to selection.states))
     (cleared : (at : RecordAt) (index : Option (List PeerKey)) (dumps : DumpsState) (c : BodyKind) (body : List ℕ) → All (λ (unit : ReplayUnit). P unit.payload) (clears_at selection at index dumps c body)) where
   abbrev Of : Found → Type 0
-  Of f = OfFound selection.family selection.states P entry message state f
+  Of f = OfFound selection.rules selection.states P entry message state f
 
   cut_by : (file : ℕ) (index : Option (List PeerKey)) (dumps : DumpsState) (cut : Cut) → All Of (found_at file selection index dumps cut)
   unfolding found_at
   cut_by file index dumps (Whole r) =
       let at = at_record file r.offset r.seconds in
-      let c = body_kind_of selection.family r.kind r.subtype in
-      let read = units_in selection.family selection.states at (is_extended r.kind) index c r.body in
+      let c = body_kind_of selection.rules.family r.kind r.subtype in
+      let read = units_in selection.rules selection.states at (is_extended r.kind) index c r.body in
       let clears = clears_at selection at index dumps c r.body in
       All-append Of (map (λ u. found.Unit u) clears) (found_units selection at read)
       (All-map Of (λ (u : ReplayUnit). found.Unit u) clears (cleared at index dumps c r.body))
-      (selected_by selection.family selection.states P entry message state selection at read (read_by selection.family selection.states P entry message state at (is_extended r.kind) index c r.body))
-  cut_by file index dumps (Broken offset fault) = refusal_by selection.family selection.states P entry message state (at_record file offset 0) fault
+      (selected_by selection.rules selection.states P entry message state selection at read (read_by selection.rules selection.states P entry message state at (is_extended r.kind) index c r.body))
+  cut_by file index dumps (Broken offset fault) = refusal_by selection.rules selection.states P entry message state (at_record file offset 0) fault
 
   file_by : (file : ℕ) (dumps : DumpsState) (bytes : List ℕ) → All Of (found_in_file selection file dumps bytes)
-  file_by file dumps bytes = all_behind Of (λ (earlier : List Cut) (cut : Cut). found_at file selection (index_before selection.family earlier) (dumps_behind_cuts file selection None dumps earlier) cut) (λ earlier cut. cut_by file (index_before selection.family earlier) (dumps_behind_cuts file selection None dumps earlier) cut) [] (cuts 0 bytes)
+  file_by file dumps bytes = all_behind Of (λ (earlier : List Cut) (cut : Cut). found_at file selection (index_before selection.rules.family earlier) (dumps_behind_cuts file selection None dumps earlier) cut) (λ earlier cut. cut_by file (index_before selection.rules.family earlier) (dumps_behind_cuts file selection None dumps earlier) cut) [] (cuts 0 bytes)
 
   files_by : (file : ℕ) (dumps : DumpsState) (files : List (List ℕ)) → All Of (found_in_files selection file dumps files)
   files_by file dumps [] = All-nil Of
@@ -132,7 +132,7 @@ module _ (selection : UnitSelection) (P : Payload → Type 0) (entry : (key : Ro
 
   units_where : (files : List (List ℕ)) → All (λ unit. P unit.payload) (units_of selection files)
   unfolding units_of found_in
-  units_where files = given_by selection.family selection.states P entry message state (found_in selection files) (files_by 0 no_dumps files)
+  units_where files = given_by selection.rules selection.states P entry message state (found_in selection files) (files_by 0 no_dumps files)
 
 -- clears have no rule
 clears_by : (rule : StateRule) (at : RecordAt) (begun : Bool) (heard : List PeerKey) → AreByRule rule (clears_if begun at heard)
@@ -143,20 +143,20 @@ clears_by rule at true (peer ∷ heard) = All-cons (λ (unit : ReplayUnit). IsBy
 pub units_by : (selection : UnitSelection) (files : List (List ℕ)) → AreByRule selection.states (units_of selection files)
 units_by selection files = units_where selection (λ payload. IsByRule selection.states payload) (λ key attrs. tt) (λ bytes width add_path. tt) (λ from to. refl) (λ at index dumps c body. clears_by selection.states at (begins selection at index dumps c body) dumps.heard) files
 
--- clears have no family
-clears_of : (family : FamilyOf) (at : RecordAt) (begun : Bool) (heard : List PeerKey) → AreOfFamily family (clears_if begun at heard)
-clears_of family at false heard = All-nil (λ (unit : ReplayUnit). IsOfFamily family unit.payload)
-clears_of family at true [] = All-nil (λ (unit : ReplayUnit). IsOfFamily family unit.payload)
-clears_of family at true (peer ∷ heard) = All-cons (λ (unit : ReplayUnit). IsOfFamily family unit.payload) (clear_unit at peer) (clears_if true at heard) tt (clears_of family at true heard)
+-- clears have no rules
+clears_of : (rules : Rules) (at : RecordAt) (begun : Bool) (heard : List PeerKey) → AreReadBy rules (clears_if begun at heard)
+clears_of rules at false heard = All-nil (λ (unit : ReplayUnit). IsReadBy rules unit.payload)
+clears_of rules at true [] = All-nil (λ (unit : ReplayUnit). IsReadBy rules unit.payload)
+clears_of rules at true (peer ∷ heard) = All-cons (λ (unit : ReplayUnit). IsReadBy rules unit.payload) (clear_unit at peer) (clears_if true at heard) tt (clears_of rules at true heard)
 
-pub units_of_family : (selection : UnitSelection) (files : List (List ℕ)) → AreOfFamily selection.family (units_of selection files)
-units_of_family selection files = units_where selection (λ payload. IsOfFamily selection.family payload) (λ key attrs. refl) (λ bytes width add_path. refl) (λ from to. tt) (λ at index dumps c body. clears_of selection.family at (begins selection at index dumps c body) dumps.heard) files
+pub units_by_rules : (selection : UnitSelection) (files : List (List ℕ)) → AreReadBy selection.rules (units_of selection files)
+units_by_rules selection files = units_where selection (λ payload. IsReadBy selection.rules payload) (λ key attrs. refl) (λ bytes width add_path. refl) (λ from to. tt) (λ at index dumps c body. clears_of selection.rules at (begins selection at index dumps c body) dumps.heard) files
 
 -- where RIB dumps are added, none begins anew
 none_begins : (selection : UnitSelection) (at : RecordAt) (index : Option (List PeerKey)) (dumps : DumpsState) (c : BodyKind) (body : List ℕ) → selection.ribs ≡ Add → begins selection at index dumps c body ≡ false
 none_begins selection at index dumps content.IndexTable body h = refl
 none_begins selection at index dumps (content.Rib add_path) body h =
-    elim (is_ok (rib_beside selection.family add_path index body)) as (λ b. (b && may_begin selection dumps.begun (time_of at 0)) ≡ false) [
+    elim (is_ok (rib_beside selection.rules.family add_path index body)) as (λ b. (b && may_begin selection dumps.begun (time_of at 0)) ≡ false) [
       | true ↦ ap (λ ribs. replaces ribs && (not dumps.begun && not (is_past selection.until (time_of at 0)))) h
       | false ↦ refl
     ]

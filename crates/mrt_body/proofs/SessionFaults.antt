@@ -8,7 +8,7 @@ use Rattle.mrt_frame.specs.Fields.{Reading, ◌>>=◌, number_at}
 use Rattle.mrt_frame.proofs.FieldLaws.{IsBytes, number_takes, number_at-again}
 use Rattle.bgp_update.specs.declared.width.Width.{Width}
 use Rattle.bgp_update.specs.Segments.{number_len}
-use Rattle.bgp_update.specs.Families.{FamilyOf}
+use Rattle.bgp_update.specs.Families.{Rules}
 use Rattle.bgp_update.proofs.Readings.{mapped_err}
 use Rattle.mrt_body.specs.declared.record_place.RecordAt.{RecordAt}
 use Rattle.peer_units.specs.declared.state_rule.StateRule.{StateRule}
@@ -179,14 +179,14 @@ behind_microseconds extended width body h = ap (microseconds_at extended) h.spel
 
 -- ---- messages
 
-module _ (family : FamilyOf) (at : RecordAt) (extended : Bool) (width : Width) where
-  pub message_refused : (add_path : Bool) (body : List ℕ) (fault : Fault) → IsBytes body → message_unit family at extended width add_path body ≡ Err fault → ((fault ≡ BadFamily) × HasOtherFamily extended width body) ⊎ (fault ≡ ShortRecord)
+module _ (rules : Rules) (at : RecordAt) (extended : Bool) (width : Width) where
+  pub message_refused : (add_path : Bool) (body : List ℕ) (fault : Fault) → IsBytes body → message_unit rules at extended width add_path body ≡ Err fault → ((fault ≡ BadFamily) × HasOtherFamily extended width body) ⊎ (fault ≡ ShortRecord)
   unfolding message_unit
   message_refused add_path body fault fine e =
-      then_short (microseconds_at extended body) (λ m. session_peer_at width m.1 >>= λ peer. Ok (session_unit at m.0 peer.0 (Message peer.1 width add_path family))) fault (microseconds_short extended body) (λ m m_is me.
-      other_family extended width body fault m fine m_is (mapped_err (session_peer_at width m.1) (λ peer. session_unit at m.0 peer.0 (Message peer.1 width add_path family)) fault me)) e
+      then_short (microseconds_at extended body) (λ m. session_peer_at width m.1 >>= λ peer. Ok (session_unit at m.0 peer.0 (Message peer.1 width add_path rules))) fault (microseconds_short extended body) (λ m m_is me.
+      other_family extended width body fault m fine m_is (mapped_err (session_peer_at width m.1) (λ peer. session_unit at m.0 peer.0 (Message peer.1 width add_path rules)) fault me)) e
 
-  pub message_other : (add_path : Bool) (body : List ℕ) → HasOtherFamily extended width body → message_unit family at extended width add_path body ≡ Err BadFamily
+  pub message_other : (add_path : Bool) (body : List ℕ) → HasOtherFamily extended width body → message_unit rules at extended width add_path body ≡ Err BadFamily
   unfolding message_unit
   message_other add_path body h = rw (behind_microseconds extended width body h, peer_other width h.peer_as h.local_as h.interface h.family h.rest h.fits_peer_as h.fits_local_as h.fits_interface h.fits_family h.other.0 h.other.1) refl
 

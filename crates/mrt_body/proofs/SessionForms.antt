@@ -8,7 +8,7 @@ use Rattle.mrt_frame.proofs.Items.{bind_ok, ok_is}
 use Rattle.mrt_frame.proofs.FieldLaws.{IsBytes, number_takes, number_at-again}
 use Rattle.bgp_update.specs.declared.width.Width.{Width}
 use Rattle.bgp_update.specs.Segments.{number_len}
-use Rattle.bgp_update.specs.Families.{FamilyOf}
+use Rattle.bgp_update.specs.Families.{Rules}
 use Rattle.mrt_body.specs.declared.record_place.RecordAt.{RecordAt}
 use Rattle.peer_units.specs.declared.unit.PeerAddr.{PeerAddr}
 use Rattle.peer_units.specs.declared.unit.PeerKey.{PeerKey}
@@ -133,11 +133,11 @@ microseconds_again false microseconds rest fits = ap (λ (n : ℕ). Ok (n, rest)
 
 -- ---- messages
 
-pub message_body-is : (family : FamilyOf) (at : RecordAt) (extended : Bool) (width : Width) (add_path : Bool) (body : List ℕ) (unit : ReplayUnit) → IsBytes body → message_unit family at extended width add_path body ≡ Ok unit → IsMessageBody family at extended width add_path body unit
+pub message_body-is : (rules : Rules) (at : RecordAt) (extended : Bool) (width : Width) (add_path : Bool) (body : List ℕ) (unit : ReplayUnit) → IsBytes body → message_unit rules at extended width add_path body ≡ Ok unit → IsMessageBody rules at extended width add_path body unit
 unfolding message_unit
-message_body-is family at extended width add_path body unit fine e =
-    let m = bind_ok (microseconds_at extended body) (λ m. session_peer_at width m.1 >>= λ peer. Ok (session_unit at m.0 peer.0 (Message peer.1 width add_path family))) unit e in
-    let p = bind_ok (session_peer_at width m.0.1) (λ peer. Ok (session_unit at m.0.0 peer.0 (Message peer.1 width add_path family))) unit m.2 in
+message_body-is rules at extended width add_path body unit fine e =
+    let m = bind_ok (microseconds_at extended body) (λ m. session_peer_at width m.1 >>= λ peer. Ok (session_unit at m.0 peer.0 (Message peer.1 width add_path rules))) unit e in
+    let p = bind_ok (session_peer_at width m.0.1) (λ peer. Ok (session_unit at m.0.0 peer.0 (Message peer.1 width add_path rules))) unit m.2 in
     let tm = microseconds_take extended body m.0 fine m.1 in
     let tp = peer_takes width m.0.1 p.0 tm.fine p.1 in
     record {
@@ -147,12 +147,12 @@ message_body-is family at extended width add_path body unit fine e =
       fits_microseconds = tm.fits;
       fits_session = tp.takes.fits;
       spelled = tm.parts ∙ ap (λ (l : List ℕ). microseconds_bytes extended m.0.0 ++ l) tp.takes.parts;
-      said = sym (ap (λ (peer : PeerKey). session_unit at m.0.0 peer (Message p.0.1 width add_path family)) tp.same ∙ ok_is (session_unit at m.0.0 p.0.0 (Message p.0.1 width add_path family)) unit p.2);
+      said = sym (ap (λ (peer : PeerKey). session_unit at m.0.0 peer (Message p.0.1 width add_path rules)) tp.same ∙ ok_is (session_unit at m.0.0 p.0.0 (Message p.0.1 width add_path rules)) unit p.2);
     }
 
-pub message_body-again : (family : FamilyOf) (at : RecordAt) (extended : Bool) (width : Width) (add_path : Bool) (body : List ℕ) (unit : ReplayUnit) → IsMessageBody family at extended width add_path body unit → message_unit family at extended width add_path body ≡ Ok unit
+pub message_body-again : (rules : Rules) (at : RecordAt) (extended : Bool) (width : Width) (add_path : Bool) (body : List ℕ) (unit : ReplayUnit) → IsMessageBody rules at extended width add_path body unit → message_unit rules at extended width add_path body ≡ Ok unit
 unfolding message_unit
-message_body-again family at extended width add_path body unit h =
+message_body-again rules at extended width add_path body unit h =
     let m : microseconds_at extended body ≡ Ok (h.microseconds, session_bytes width h.session ++ h.message) = ap (microseconds_at extended) h.spelled ∙ microseconds_again extended h.microseconds (session_bytes width h.session ++ h.message) h.fits_microseconds in
     rw (m, peer_again width h.session h.message h.fits_session) (ap (λ (u : ReplayUnit). Ok u) (sym h.said))
 

@@ -5,7 +5,7 @@ use Rattle.mrt_frame.specs.Fields.{◌>>=◌, number_at}
 use Rattle.mrt_frame.proofs.Items.{bind_ok}
 use Rattle.bgp_update.specs.declared.width.Width.{Width}
 use Rattle.bgp_update.specs.Segments.{number_len}
-use Rattle.bgp_update.specs.Families.{FamilyOf}
+use Rattle.bgp_update.specs.Families.{Rules}
 use Rattle.peer_units.specs.declared.unit.PeerAddr.{PeerAddr}
 use Rattle.peer_units.specs.declared.unit.PeerAddr.TheVariants.{V4, V6}
 use Rattle.peer_units.specs.declared.unit.PeerKey.{PeerKey}
@@ -63,11 +63,11 @@ pub message_behind : (extended : Bool) (width : Width) (body : List ℕ) (micros
 message_behind extended width body microseconds after peer rest m s = behind_more body after rest (microseconds_behind extended body (microseconds, after) m) (session_peer_behind width after peer rest s)
 
 -- the unit of a message
-pub message_is : (family : FamilyOf) (at : RecordAt) (extended : Bool) (width : Width) (add_path : Bool) (body : List ℕ) (microseconds : ℕ) (after : List ℕ) (peer : PeerKey) (rest : List ℕ) → microseconds_at extended body ≡ Ok (microseconds, after) → session_peer_at width after ≡ Ok (peer, rest)
-    → message_unit family at extended width add_path body ≡ Ok (session_unit at microseconds peer (Message (drop (length body - length rest) body) width add_path family))
+pub message_is : (rules : Rules) (at : RecordAt) (extended : Bool) (width : Width) (add_path : Bool) (body : List ℕ) (microseconds : ℕ) (after : List ℕ) (peer : PeerKey) (rest : List ℕ) → microseconds_at extended body ≡ Ok (microseconds, after) → session_peer_at width after ≡ Ok (peer, rest)
+    → message_unit rules at extended width add_path body ≡ Ok (session_unit at microseconds peer (Message (drop (length body - length rest) body) width add_path rules))
 unfolding message_unit
-message_is family at extended width add_path body microseconds after peer rest m s =
-    rw (m, s) (ap (λ (bytes : List ℕ). done (session_unit at microseconds peer (Message bytes width add_path family))) (sym (behind-drop body rest (message_behind extended width body microseconds after peer rest m s))))
+message_is rules at extended width add_path body microseconds after peer rest m s =
+    rw (m, s) (ap (λ (bytes : List ℕ). done (session_unit at microseconds peer (Message bytes width add_path rules))) (sym (behind-drop body rest (message_behind extended width body microseconds after peer rest m s))))
 
 pub message-le : (extended : Bool) (width : Width) (body : List ℕ) (microseconds : ℕ) (after : List ℕ) (peer : PeerKey) (rest : List ℕ) → microseconds_at extended body ≡ Ok (microseconds, after) → session_peer_at width after ≡ Ok (peer, rest) → length rest ≤ length body
 message-le extended width body microseconds after peer rest m s = behind-le body rest (message_behind extended width body microseconds after peer rest m s)

@@ -28,7 +28,7 @@ step_broken old new known left file offset fault cut file_is cut_is of_cut bytes
         found = ap (found_from old.file old.selection old.index old.dumps) e.2 ∙ ap (λ (f : ℕ). refused_at (at_record f offset 0) fault ∷ []) (sym file_is);
         dumps = ap (dumps_behind_cuts old.file old.selection old.index old.dumps) e.2;
         records = ap (count_by is_whole) e.2;
-        aside = ap (count_by (is_aside old.selection.family)) e.2;
+        aside = ap (count_by (is_aside old.selection.rules.family)) e.2;
       }),
     )
 
@@ -43,14 +43,14 @@ module _ (old : UnitsState) (file : ℕ) (r : Record) where
   whole = Whole r
 
   abbrev held : BodyKind
-  held = body_kind_of old.selection.family r.kind r.subtype
+  held = body_kind_of old.selection.rules.family r.kind r.subtype
 
   abbrev mid_of : Position → UnitsState
   mid_of frames = record old { frames = frames; records = old.records + 1 }
 
   -- what the record gives and leaves, if it is one of this file and a reading stands so before it
   abbrev read_in : UnitsState → ℕ → Result (List ReplayUnit) Fault
-  read_in u f = units_in u.selection.family u.selection.states (at_record f r.offset r.seconds) (is_extended r.kind) u.index held r.body
+  read_in u f = units_in u.selection.rules u.selection.states (at_record f r.offset r.seconds) (is_extended r.kind) u.index held r.body
 
   abbrev found_then : UnitsState → ℕ → List Found
   found_then u f = as_found (clears_at u.selection (at_record f r.offset r.seconds) u.index u.dumps held r.body) ++ found_units u.selection (at_record f r.offset r.seconds) (read_in u f)
@@ -77,7 +77,7 @@ module _ (old : UnitsState) (file : ℕ) (r : Record) where
         dumps = ap (dumps_behind_cuts old.file old.selection old.index old.dumps) cuts_are
             ∙ ap (λ (f : ℕ). dumps_behind_cuts old.file old.selection index (dumps_then old f) others) (sym file_is);
         records = ap (λ (cs : List Cut). old.records + count_by is_whole cs) cuts_are ∙ ap (λ (n : ℕ). old.records + n) (sum_by-cons (λ (c : Cut). cond (is_whole c) 1 0) whole others) ∙ one_more old.records 1 (count_by is_whole others);
-        aside = ap (λ (cs : List Cut). old.aside + count_by (is_aside old.selection.family) cs) cuts_are ∙ ap (λ (n : ℕ). old.aside + n) (sum_by-cons (λ (c : Cut). cond (is_aside old.selection.family c) 1 0) whole others) ∙ one_more old.aside (aside_count held) (count_by (is_aside old.selection.family) others);
+        aside = ap (λ (cs : List Cut). old.aside + count_by (is_aside old.selection.rules.family) cs) cuts_are ∙ ap (λ (n : ℕ). old.aside + n) (sum_by-cons (λ (c : Cut). cond (is_aside old.selection.rules.family c) 1 0) whole others) ∙ one_more old.aside (aside_count held) (count_by (is_aside old.selection.rules.family) others);
       }
     where
       one_more : (a b c : ℕ) → a + (b + c) ≡ (a + b) + c

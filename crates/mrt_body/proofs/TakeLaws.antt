@@ -4,7 +4,7 @@ use Rattle.std.specs.Prelude.{slice_index_or, if◌then◌else◌}
 use Rattle.std.specs.List.{filter}
 use Rattle.std.proofs.lemmas.List.Elements.{All-filter}
 use Rattle.std.proofs.lemmas.List.Sums.{length-filter, count_by-le-length}
-use Rattle.bgp_update.specs.Families.{FamilyOf}
+use Rattle.bgp_update.specs.Families.{Rules}
 use Rattle.peer_units.specs.Choices.{UnitSelection, PeerShare, is_chosen, is_chosen_peer, is_in_share, has_no_peers, has_no_share}
 use Rattle.peer_units.specs.declared.choice.PeerChoice.{PeerChoice}
 use Rattle.mrt_body.specs.declared.rib.ListedEntry.{ListedEntry}
@@ -53,9 +53,9 @@ each_taken [] None q h = refl
 each_taken [] (Some share) q h = absurd cc
 each_taken (choice ∷ choices) share q h = absurd cc
 
-module _ (family : FamilyOf) (selection : UnitSelection) (peers : List PeerKey) (list : List ListedEntry) (r : RibRecord) (first : r.given ≡ 0) where
+module _ (selection : UnitSelection) (peers : List PeerKey) (list : List ListedEntry) (r : RibRecord) (first : r.given ≡ 0) where
   abbrev entry_at : ListedEntry → ReplayUnit
-  entry_at e = listed_unit family r.at peers r.prefix r.body e
+  entry_at e = listed_unit r.rules r.at peers r.prefix r.body e
 
   abbrev taken : ListedEntry → Bool
   taken e = takes_peer selection (slice_index_or peers e.peer no_peer)
@@ -64,25 +64,25 @@ module _ (family : FamilyOf) (selection : UnitSelection) (peers : List PeerKey) 
   timely = if is_past selection.until (time_of r.at 0) then false else true
 
   -- none was given, so that all are left
-  all_left : (entries : List ListedEntry) → units_left family peers entries r ≡ map entry_at entries
+  all_left : (entries : List ListedEntry) → units_left peers entries r ≡ map entry_at entries
   all_left entries = ap (λ (n : ℕ). map entry_at (drop n entries)) first
 
   by_test : (e : ListedEntry) → takes_record selection (time_of r.at 0) r.prefix ≡ true → is_selected selection (entry_at e) ≡ taken e
   by_test e h = by_peer timely (taken e) (is_chosen selection.prefixes r.prefix) h
 
-  pub some_selected : takes_record selection (time_of r.at 0) r.prefix ≡ true → units_left family peers (filter taken list) r ≡ filter (is_selected selection) (units_left family peers list r)
+  pub some_selected : takes_record selection (time_of r.at 0) r.prefix ≡ true → units_left peers (filter taken list) r ≡ filter (is_selected selection) (units_left peers list r)
   some_selected h =
       all_left (filter taken list)
       ∙ sym (kept_as (is_selected selection) entry_at taken (λ e. by_test e h) list)
       ∙ ap (filter (is_selected selection)) (sym (all_left list))
 
-  pub all_selected : takes_record selection (time_of r.at 0) r.prefix ≡ true → takes_each_peer selection ≡ true → units_left family peers list r ≡ filter (is_selected selection) (units_left family peers list r)
+  pub all_selected : takes_record selection (time_of r.at 0) r.prefix ≡ true → takes_each_peer selection ≡ true → units_left peers list r ≡ filter (is_selected selection) (units_left peers list r)
   all_selected h each =
       all_left list
       ∙ sym (all_kept (is_selected selection) entry_at (λ e. by_test e h ∙ each_taken selection.peers selection.share (slice_index_or peers e.peer no_peer) each) list)
       ∙ ap (filter (is_selected selection)) (sym (all_left list))
 
-  pub none_selected : takes_record selection (time_of r.at 0) r.prefix ≡ false → units_left family peers [] r ≡ filter (is_selected selection) (units_left family peers list r)
+  pub none_selected : takes_record selection (time_of r.at 0) r.prefix ≡ false → units_left peers [] r ≡ filter (is_selected selection) (units_left peers list r)
   none_selected h =
       all_left []
       ∙ sym (none_kept (is_selected selection) entry_at (λ e. by_none timely (taken e) (is_chosen selection.prefixes r.prefix) h) list)

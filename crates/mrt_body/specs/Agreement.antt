@@ -2,7 +2,7 @@
 -- (RFC 6396, 4.3 and 4.4, and 3 for extended timestamps; RFC 8050). And what such a body says.
 use Rattle.std.specs.Prelude.{◌≡◌, ℕ, ◌^◌, ◌<◌, Bool, List, [], ◌∷◌, ◌++◌, length, Option, Some, None}
 use Rattle.byteorder.specs.Endian.{big_bytes}
-use Rattle.bgp_update.specs.Families.{FamilyOf}
+use Rattle.bgp_update.specs.Families.{Rules}
 use Rattle.bgp_update.specs.declared.width.Width.{Width}
 use Rattle.mrt_body.specs.declared.record_place.RecordAt.{RecordAt}
 use Rattle.mrt_body.specs.declared.body_kind.BodyKind.{BodyKind}
@@ -23,24 +23,24 @@ pub record IsIndexBody (body : List ℕ) (peers : List PeerKey) : Type 0 where
   pub spelled : body ≡ index_bytes form
   pub said : peers ≡ peers_of_index form
 
--- a RIB record of the family beside an index of these peers
+-- a RIB record of the family that is asked for, beside an index of these peers
 pub record IsRibBody
-    (family : FamilyOf) (at : RecordAt) (add_path : Bool) (peers : List PeerKey) (body : List ℕ) (units : List ReplayUnit)
+    (rules : Rules) (at : RecordAt) (add_path : Bool) (peers : List PeerKey) (body : List ℕ) (units : List ReplayUnit)
     : Type 0 where
   pub form : RibForm
-  pub fits : FitsRib family add_path (length peers) form
+  pub fits : FitsRib rules.family add_path (length peers) form
   pub spelled : body ≡ rib_bytes add_path form
-  pub said : units ≡ rib_units family at (Some peers) form
+  pub said : units ≡ rib_units rules at (Some peers) form
 
 -- without an index no RIB record agrees
-abbrev pub IsRibBodyBeside : FamilyOf → RecordAt → Bool → Option (List PeerKey) → List ℕ → List ReplayUnit → Type 0
-IsRibBodyBeside family at add_path None body units = ⊥
-IsRibBodyBeside family at add_path (Some peers) body units = IsRibBody family at add_path peers body units
+abbrev pub IsRibBodyBeside : Rules → RecordAt → Bool → Option (List PeerKey) → List ℕ → List ReplayUnit → Type 0
+IsRibBodyBeside rules at add_path None body units = ⊥
+IsRibBodyBeside rules at add_path (Some peers) body units = IsRibBody rules at add_path peers body units
 
 -- microseconds where the timestamp is extended, the session, and a message to the end, which may be empty; the unit has
--- the family that was asked for
+-- the rules that were asked for
 pub record IsMessageBody
-    (family : FamilyOf) (at : RecordAt) (extended : Bool) (width : Width) (add_path : Bool) (body : List ℕ) (unit : ReplayUnit)
+    (rules : Rules) (at : RecordAt) (extended : Bool) (width : Width) (add_path : Bool) (body : List ℕ) (unit : ReplayUnit)
     : Type 0 where
   pub microseconds : ℕ
   pub session : SessionForm
@@ -48,7 +48,7 @@ pub record IsMessageBody
   pub fits_microseconds : FitsMicroseconds extended microseconds
   pub fits_session : FitsSession width session
   pub spelled : body ≡ microseconds_bytes extended microseconds ++ (session_bytes width session ++ message)
-  pub said : unit ≡ session_unit at microseconds (session_peer session) (Message message width add_path family)
+  pub said : unit ≡ session_unit at microseconds (session_peer session) (Message message width add_path rules)
 
 -- microseconds where the timestamp is extended, the session, old state 2, and new state 2; the unit has the rule that
 -- was asked for
@@ -68,12 +68,12 @@ pub record IsStatesBody
   pub said : unit ≡ session_unit at microseconds (session_peer session) (State from to rule)
 
 -- a record with this content agrees with its form beside the index in force, and these are its units
-abbrev pub Agrees : FamilyOf → StateRule → RecordAt → Bool → Option (List PeerKey) → BodyKind → List ℕ → List ReplayUnit → Type 0
-Agrees family rule at extended index content.IndexTable body units =
+abbrev pub Agrees : Rules → StateRule → RecordAt → Bool → Option (List PeerKey) → BodyKind → List ℕ → List ReplayUnit → Type 0
+Agrees rules rule at extended index content.IndexTable body units =
     ((peers : List PeerKey) × IsIndexBody body peers) × (units ≡ [])
-Agrees family rule at extended index (content.Rib add_path) body units = IsRibBodyBeside family at add_path index body units
-Agrees family rule at extended index (content.Message width add_path) body units =
-    (unit : ReplayUnit) × IsMessageBody family at extended width add_path body unit × (units ≡ unit ∷ [])
-Agrees family rule at extended index (content.States width) body units =
+Agrees rules rule at extended index (content.Rib add_path) body units = IsRibBodyBeside rules at add_path index body units
+Agrees rules rule at extended index (content.Message width add_path) body units =
+    (unit : ReplayUnit) × IsMessageBody rules at extended width add_path body unit × (units ≡ unit ∷ [])
+Agrees rules rule at extended index (content.States width) body units =
     (unit : ReplayUnit) × IsStatesBody rule at extended width body unit × (units ≡ unit ∷ [])
-Agrees family rule at extended index content.Aside body units = units ≡ []
+Agrees rules rule at extended index content.Aside body units = units ≡ []

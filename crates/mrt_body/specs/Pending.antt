@@ -2,7 +2,7 @@
 use Rattle.std.specs.Prelude.{◌≤◌, ℕ, List, [], ◌∷◌, map, drop, length, Option, Some, None, ⊤}
 use Rattle.std.specs.List.{All}
 use Rattle.bgp_prefix.specs.Prefixes.{IpPrefix}
-use Rattle.bgp_update.specs.Families.{FamilyOf}
+use Rattle.bgp_update.specs.Families.{Rules}
 use Rattle.mrt_body.specs.declared.record_place.RecordAt.{RecordAt}
 use Rattle.peer_units.specs.declared.unit.PeerKey.{PeerKey}
 use Rattle.peer_units.specs.Plain.{Unit as ReplayUnit}
@@ -22,14 +22,14 @@ pub record IndexState : Type 0 where
 abbrev pub without_pending : IndexState → IndexState
 without_pending index = record { peers = index.peers; pending = [] }
 
--- a record that is read, whose prefix is of either family
+-- a record that is read, with the rules by which its entries are
 abbrev pub RibRecord : Type 0
-RibRecord = RibRecordOf IpPrefix
+RibRecord = RibRecordOf IpPrefix Rules
 
 -- the unit of the entry of this number
-abbrev pub read_unit : FamilyOf → RecordAt → List PeerKey → IpPrefix → ℕ → ReadEntry → ReplayUnit
-read_unit family at peers prefix number e =
-    rib_unit family at peers number e.peer (record { prefix = prefix; id = e.identifier }) e.attributes
+abbrev pub read_unit : Rules → RecordAt → List PeerKey → IpPrefix → ℕ → ReadEntry → ReplayUnit
+read_unit rules at peers prefix number e =
+    rib_unit rules at peers number e.peer (record { prefix = prefix; id = e.identifier }) e.attributes
 
 -- the list has entries of the record
 pub record AreListed (peers : List PeerKey) (list : List ListedEntry) (r : RibRecord) : Type 0 where
@@ -38,20 +38,20 @@ pub record AreListed (peers : List PeerKey) (list : List ListedEntry) (r : RibRe
   pub within : All (IsListed (length peers) (length r.body)) list
 
 -- the unit of an entry that is listed
-abbrev pub listed_unit : FamilyOf → RecordAt → List PeerKey → IpPrefix → List ℕ → ListedEntry → ReplayUnit
-listed_unit family at peers prefix body e = read_unit family at peers prefix e.number (read_listed body e)
+abbrev pub listed_unit : Rules → RecordAt → List PeerKey → IpPrefix → List ℕ → ListedEntry → ReplayUnit
+listed_unit rules at peers prefix body e = read_unit rules at peers prefix e.number (read_listed body e)
 
 -- the units that are still to be given
-abbrev pub units_left : FamilyOf → List PeerKey → List ListedEntry → RibRecord → List ReplayUnit
-units_left family peers list r = map (listed_unit family r.at peers r.prefix r.body) (drop r.given list)
+abbrev pub units_left : List PeerKey → List ListedEntry → RibRecord → List ReplayUnit
+units_left peers list r = map (listed_unit r.rules r.at peers r.prefix r.body) (drop r.given list)
 
 abbrev pub ArePending : List PeerKey → List ListedEntry → Option RibRecord → Type 0
 ArePending peers list None = ⊤
 ArePending peers list (Some r) = AreListed peers list r
 
-abbrev pub pending_of : FamilyOf → List PeerKey → List ListedEntry → Option RibRecord → List ReplayUnit
-pending_of family peers list None = []
-pending_of family peers list (Some r) = units_left family peers list r
+abbrev pub pending_of : List PeerKey → List ListedEntry → Option RibRecord → List ReplayUnit
+pending_of peers list None = []
+pending_of peers list (Some r) = units_left peers list r
 
 -- the units that are lent
 abbrev pub units_lent : Lent ReplayUnit (List ReplayUnit) → List ReplayUnit

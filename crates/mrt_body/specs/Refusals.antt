@@ -5,7 +5,7 @@ use Rattle.std.specs.List.{flat_map}
 use Rattle.byteorder.specs.Endian.{big_bytes}
 use Rattle.mrt_frame.specs.declared.fault.Fault.{Fault}
 use Rattle.mrt_frame.specs.declared.fault.Fault.TheVariants.{ShortRecord, TrailingBytes, BadFamily, NoPeerIndex, BadPeerIndex, BadPrefix}
-use Rattle.bgp_update.specs.Families.{FamilyOf}
+use Rattle.bgp_update.specs.Families.{FamilyOf, Rules}
 use Rattle.bgp_update.specs.declared.width.Width.{Width}
 use Rattle.bgp_update.specs.Segments.{number_len}
 use Rattle.mrt_body.specs.declared.record_place.RecordAt.{RecordAt}
@@ -21,14 +21,14 @@ use Rattle.mrt_body.specs.Agreement.{Agrees}
 
 -- bytes stand behind a body that agrees
 pub record HasMore
-    (family : FamilyOf) (rule : StateRule) (at : RecordAt) (extended : Bool) (index : Option (List PeerKey)) (c : BodyKind) (body : List ℕ)
+    (rules : Rules) (rule : StateRule) (at : RecordAt) (extended : Bool) (index : Option (List PeerKey)) (c : BodyKind) (body : List ℕ)
     : Type 0 where
   pub front : List ℕ
   pub more : List ℕ
   pub units : List ReplayUnit
   pub parts : body ≡ front ++ more
   pub some : 0 < length more
-  pub agrees : Agrees family rule at extended index c front units
+  pub agrees : Agrees rules rule at extended index c front units
 
 -- behind the fields before it stands an address family that is neither IPv4 nor IPv6
 pub record HasOtherFamily (extended : Bool) (width : Width) (body : List ℕ) : Type 0 where
@@ -78,30 +78,30 @@ pub record HasUnknownPeer (family : FamilyOf) (add_path : Bool) (peers : ℕ) (b
       ++ (big_bytes 2 peer ++ rest))))
 
 -- what is wrong with a RIB record beside this index, other than a field that runs past the body
-abbrev pub HasRibFault : FamilyOf → StateRule → RecordAt → Bool → Bool → Option (List PeerKey) → List ℕ → Fault → Type 0
-HasRibFault family rule at extended add_path None body fault = fault ≡ NoPeerIndex
-HasRibFault family rule at extended add_path (Some peers) body fault =
-    ((fault ≡ BadPrefix) × HasBadPrefix family body)
-    ⊎ (((fault ≡ BadPeerIndex) × HasUnknownPeer family add_path (length peers) body)
-    ⊎ ((fault ≡ TrailingBytes) × HasMore family rule at extended (Some peers) (content.Rib add_path) body))
+abbrev pub HasRibFault : Rules → StateRule → RecordAt → Bool → Bool → Option (List PeerKey) → List ℕ → Fault → Type 0
+HasRibFault rules rule at extended add_path None body fault = fault ≡ NoPeerIndex
+HasRibFault rules rule at extended add_path (Some peers) body fault =
+    ((fault ≡ BadPrefix) × HasBadPrefix rules.family body)
+    ⊎ (((fault ≡ BadPeerIndex) × HasUnknownPeer rules.family add_path (length peers) body)
+    ⊎ ((fault ≡ TrailingBytes) × HasMore rules rule at extended (Some peers) (content.Rib add_path) body))
 
 -- what is wrong with a body, other than a field that runs past it
-abbrev pub HasFault : FamilyOf → StateRule → RecordAt → Bool → Option (List PeerKey) → BodyKind → List ℕ → Fault → Type 0
-HasFault family rule at extended index content.IndexTable body fault =
-    (fault ≡ TrailingBytes) × HasMore family rule at extended index content.IndexTable body
-HasFault family rule at extended index (content.Rib add_path) body fault = HasRibFault family rule at extended add_path index body fault
-HasFault family rule at extended index (content.Message width add_path) body fault =
+abbrev pub HasFault : Rules → StateRule → RecordAt → Bool → Option (List PeerKey) → BodyKind → List ℕ → Fault → Type 0
+HasFault rules rule at extended index content.IndexTable body fault =
+    (fault ≡ TrailingBytes) × HasMore rules rule at extended index content.IndexTable body
+HasFault rules rule at extended index (content.Rib add_path) body fault = HasRibFault rules rule at extended add_path index body fault
+HasFault rules rule at extended index (content.Message width add_path) body fault =
     (fault ≡ BadFamily) × HasOtherFamily extended width body
-HasFault family rule at extended index (content.States width) body fault =
+HasFault rules rule at extended index (content.States width) body fault =
     ((fault ≡ BadFamily) × HasOtherFamily extended width body)
-    ⊎ ((fault ≡ TrailingBytes) × HasMore family rule at extended index (content.States width) body)
-HasFault family rule at extended index content.Aside body fault = ⊥
+    ⊎ ((fault ≡ TrailingBytes) × HasMore rules rule at extended index (content.States width) body)
+HasFault rules rule at extended index content.Aside body fault = ⊥
 
 -- A body that doesn't agree is refused for what is wrong with it, and where nothing else is, for a field that runs
 -- past it.
-abbrev pub IsRefused : FamilyOf → StateRule → RecordAt → Bool → Option (List PeerKey) → BodyKind → List ℕ → Fault → Type 0
-IsRefused family rule at extended index c body fault =
-    HasFault family rule at extended index c body fault
+abbrev pub IsRefused : Rules → StateRule → RecordAt → Bool → Option (List PeerKey) → BodyKind → List ℕ → Fault → Type 0
+IsRefused rules rule at extended index c body fault =
+    HasFault rules rule at extended index c body fault
     ⊎ ((fault ≡ ShortRecord)
-    × ((units : List ReplayUnit) → Agrees family rule at extended index c body units → ⊥)
-    × ((other : Fault) → HasFault family rule at extended index c body other → ⊥))
+    × ((units : List ReplayUnit) → Agrees rules rule at extended index c body units → ⊥)
+    × ((other : Fault) → HasFault rules rule at extended index c body other → ⊥))

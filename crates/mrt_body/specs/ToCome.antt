@@ -97,8 +97,8 @@ pub record Passes
   pub found : found_to_come old contents ≡ taken ++ found_to_come new rest
   pub records : old.records + count_by is_whole (cuts_to_come old contents)
       ≡ new.records + count_by is_whole (cuts_to_come new rest)
-  pub aside : old.aside + count_by (is_aside old.selection.family) (cuts_to_come old contents)
-      ≡ new.aside + count_by (is_aside new.selection.family) (cuts_to_come new rest)
+  pub aside : old.aside + count_by (is_aside old.selection.rules.family) (cuts_to_come old contents)
+      ≡ new.aside + count_by (is_aside new.selection.rules.family) (cuts_to_come new rest)
 
 -- Of each file the bytes that it still gives, where they are known. Where those of the current and the later files are
 -- known, this was given of them, and the others are known and to come now.
@@ -185,13 +185,13 @@ pub record TakesRecord
   pub state : new ≡ record old {
     index = index_with old.index content body;
     dumps = dumps_behind old.selection (begins old.selection at old.index old.dumps content body) old.dumps content
-        (units_in old.selection.family old.selection.states at extended old.index content body);
+        (units_in old.selection.rules old.selection.states at extended old.index content body);
     pending = new.pending;
     aside = old.aside + aside_count content;
   }
   pub found : refusals refused ++ as_found new.pending
       ≡ as_found (clears_at old.selection at old.index old.dumps content body)
-      ++ found_units old.selection at (units_in old.selection.family old.selection.states at extended old.index content body)
+      ++ found_units old.selection at (units_in old.selection.rules old.selection.states at extended old.index content body)
 
 -- more of the current file is to come, where it gave these bytes before and gives those now
 pub record StaysInFile
@@ -209,8 +209,8 @@ pub record StaysInFile
   pub dumps : dumps_here old bytes ≡ dumps_here new rest
   pub records : old.records + count_by is_whole (to_come old.frames bytes)
       ≡ new.records + count_by is_whole (to_come new.frames rest)
-  pub aside : old.aside + count_by (is_aside old.selection.family) (to_come old.frames bytes)
-      ≡ new.aside + count_by (is_aside new.selection.family) (to_come new.frames rest)
+  pub aside : old.aside + count_by (is_aside old.selection.rules.family) (to_come old.frames bytes)
+      ≡ new.aside + count_by (is_aside new.selection.rules.family) (to_come new.frames rest)
 
 -- no more of the file is to come
 pub record LeavesFile (old : UnitsState) (bytes : List ℕ) (new : UnitsState) (taken : List Found) : Type 0 where
@@ -218,7 +218,7 @@ pub record LeavesFile (old : UnitsState) (bytes : List ℕ) (new : UnitsState) (
   pub found : found_here old bytes ≡ taken
   pub dumps : dumps_here old bytes ≡ old.dumps
   pub records : count_by is_whole (to_come old.frames bytes) ≡ 0
-  pub aside : count_by (is_aside old.selection.family) (to_come old.frames bytes) ≡ 0
+  pub aside : count_by (is_aside old.selection.rules.family) (to_come old.frames bytes) ≡ 0
 
 -- where the bytes of the current file are known, this was given of them
 abbrev pub Steps : UnitsState → Option (List ℕ) → UnitsState → Option (List ℕ) → List Found → Type 0

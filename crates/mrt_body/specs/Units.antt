@@ -10,7 +10,7 @@ use Rattle.mrt_frame.specs.declared.cut.Cut.{Cut}
 use Rattle.mrt_frame.specs.declared.cut.Cut.TheVariants.{Whole, Broken}
 use Rattle.mrt_frame.specs.Fields.{◌>>=◌}
 use Rattle.mrt_frame.specs.Cuts.{cuts}
-use Rattle.bgp_update.specs.Families.{FamilyOf}
+use Rattle.bgp_update.specs.Families.{FamilyOf, Rules}
 use Rattle.bgp_update.specs.declared.width.Width.{Width}
 use Rattle.bgp_update.specs.declared.width.Width.TheVariants.{Two, Four}
 use Rattle.mrt_body.specs.declared.record_place.RecordAt.{RecordAt}
@@ -84,43 +84,43 @@ abbrev pub no_peer : PeerKey
 no_peer = record { asn = 0; addr = V4 0 }
 
 -- the unit of the entry of this number, from this peer of the index
-abbrev pub rib_unit : FamilyOf → RecordAt → List PeerKey → ℕ → ℕ → RouteKey → List ℕ → ReplayUnit
-rib_unit family at peers number peer key attributes = record {
+abbrev pub rib_unit : Rules → RecordAt → List PeerKey → ℕ → ℕ → RouteKey → List ℕ → ReplayUnit
+rib_unit rules at peers number peer key attributes = record {
   place = place_of at (Some number);
   time = time_of at 0;
   peer = slice_index_or peers peer no_peer;
-  payload = Entry key attributes family;
+  payload = Entry rules key attributes;
 }
 
-abbrev pub entry_unit : FamilyOf → RecordAt → List PeerKey → IpPrefix → ℕ → WrittenEntry → ReplayUnit
-entry_unit family at peers prefix number e =
-    rib_unit family at peers number e.peer (record { prefix = prefix; id = e.identifier }) e.attributes
+abbrev pub entry_unit : Rules → RecordAt → List PeerKey → IpPrefix → ℕ → WrittenEntry → ReplayUnit
+entry_unit rules at peers prefix number e =
+    rib_unit rules at peers number e.peer (record { prefix = prefix; id = e.identifier }) e.attributes
 
 -- the units of entries, the first of which has this number
-abbrev pub entry_units : FamilyOf → RecordAt → List PeerKey → IpPrefix → ℕ → List WrittenEntry → List ReplayUnit
-entry_units family at peers prefix number [] = []
-entry_units family at peers prefix number (e ∷ entries) =
-    entry_unit family at peers prefix number e ∷ entry_units family at peers prefix (number + 1) entries
+abbrev pub entry_units : Rules → RecordAt → List PeerKey → IpPrefix → ℕ → List WrittenEntry → List ReplayUnit
+entry_units rules at peers prefix number [] = []
+entry_units rules at peers prefix number (e ∷ entries) =
+    entry_unit rules at peers prefix number e ∷ entry_units rules at peers prefix (number + 1) entries
 
 -- the entries of a RIB record, numbered from 1
-abbrev pub rib_units : FamilyOf → RecordAt → Option (List PeerKey) → RibForm → List ReplayUnit
-rib_units family at None form = []
-rib_units family at (Some peers) form = entry_units family at peers (rib_prefix form) 1 form.entries
+abbrev pub rib_units : Rules → RecordAt → Option (List PeerKey) → RibForm → List ReplayUnit
+rib_units rules at None form = []
+rib_units rules at (Some peers) form = entry_units rules at peers (rib_prefix form) 1 form.entries
 
-abbrev pub rib_units_in : FamilyOf → RecordAt → Bool → Option (List PeerKey) → List ℕ → Result (List ReplayUnit) Fault
-rib_units_in family at add_path index body = rib_beside family add_path index body >>= λ form. Ok (rib_units family at index form)
+abbrev pub rib_units_in : Rules → RecordAt → Bool → Option (List PeerKey) → List ℕ → Result (List ReplayUnit) Fault
+rib_units_in rules at add_path index body = rib_beside rules.family add_path index body >>= λ form. Ok (rib_units rules at index form)
 
 -- the unit of a message or state change
 abbrev pub session_unit : RecordAt → ℕ → PeerKey → Payload → ReplayUnit
 session_unit at microseconds peer payload =
     record { place = place_of at None; time = time_of at microseconds; peer = peer; payload = payload }
 
--- of the family that is asked for
-unfoldable pub message_unit : FamilyOf → RecordAt → Bool → Width → Bool → List ℕ → Result ReplayUnit Fault
-message_unit family at extended width add_path body = do
+-- with the rules that are asked for
+unfoldable pub message_unit : Rules → RecordAt → Bool → Width → Bool → List ℕ → Result ReplayUnit Fault
+message_unit rules at extended width add_path body = do
   microseconds ← microseconds_at extended body
   peer ← session_peer_at width microseconds.1
-  Ok (session_unit at microseconds.0 peer.0 (Message peer.1 width add_path family))
+  Ok (session_unit at microseconds.0 peer.0 (Message peer.1 width add_path rules))
 
 -- with the rule that is asked for
 unfoldable pub states_unit : StateRule → RecordAt → Bool → Width → List ℕ → Result ReplayUnit Fault
@@ -134,13 +134,13 @@ abbrev pub alone : Result ReplayUnit Fault → Result (List ReplayUnit) Fault
 alone read = read >>= λ unit. Ok (unit ∷ [])
 
 -- The units of a whole record, or its fault; index tables and records aside give none. Messages and entries have the
--- family and state changes the rule that are asked for.
-abbrev pub units_in : FamilyOf → StateRule → RecordAt → Bool → Option (List PeerKey) → BodyKind → List ℕ → Result (List ReplayUnit) Fault
-units_in family rule at extended index content.IndexTable body = peers_in body >>= λ peers. Ok []
-units_in family rule at extended index (content.Rib add_path) body = rib_units_in family at add_path index body
-units_in family rule at extended index (content.Message width add_path) body = alone (message_unit family at extended width add_path body)
-units_in family rule at extended index (content.States width) body = alone (states_unit rule at extended width body)
-units_in family rule at extended index content.Aside body = Ok []
+-- rules, and state changes the rule, that are asked for.
+abbrev pub units_in : Rules → StateRule → RecordAt → Bool → Option (List PeerKey) → BodyKind → List ℕ → Result (List ReplayUnit) Fault
+units_in rules rule at extended index content.IndexTable body = peers_in body >>= λ peers. Ok []
+units_in rules rule at extended index (content.Rib add_path) body = rib_units_in rules at add_path index body
+units_in rules rule at extended index (content.Message width add_path) body = alone (message_unit rules at extended width add_path body)
+units_in rules rule at extended index (content.States width) body = alone (states_unit rule at extended width body)
+units_in rules rule at extended index content.Aside body = Ok []
 
 -- those of them that are selected; a fault stays
 abbrev pub selected_units : UnitSelection → Result (List ReplayUnit) Fault → Result (List ReplayUnit) Fault
@@ -171,7 +171,7 @@ clear_unit at peer = record { place = place_of at None; time = time_of at 0; pee
 -- Whether a record begins one, beside the index in force and the dumps before it. A refused record doesn't.
 abbrev pub begins : UnitSelection → RecordAt → Option (List PeerKey) → DumpsState → BodyKind → List ℕ → Bool
 begins selection at index dumps (content.Rib add_path) body =
-    is_ok (rib_beside selection.family add_path index body) && may_begin selection dumps.begun (time_of at 0)
+    is_ok (rib_beside selection.rules.family add_path index body) && may_begin selection dumps.begun (time_of at 0)
 begins selection at index dumps content.IndexTable body = false
 begins selection at index dumps (content.Message width add_path) body = false
 begins selection at index dumps (content.States width) body = false
@@ -203,18 +203,18 @@ dumps_behind selection begun dumps content read =
 unfoldable pub found_at : ℕ → UnitSelection → Option (List PeerKey) → DumpsState → Cut → List Found
 found_at file selection index dumps (Whole r) =
     let at = at_record file r.offset r.seconds in
-    let content = body_kind_of selection.family r.kind r.subtype in
+    let content = body_kind_of selection.rules.family r.kind r.subtype in
     map (λ u. found.Unit u) (clears_at selection at index dumps content r.body)
-    ++ found_units selection at (units_in selection.family selection.states at (is_extended r.kind) index content r.body)
+    ++ found_units selection at (units_in selection.rules selection.states at (is_extended r.kind) index content r.body)
 found_at file selection index dumps (Broken offset fault) = refused_at (at_record file offset 0) fault ∷ []
 
 -- the dumps behind a cut
 abbrev pub dumps_after : ℕ → UnitSelection → Option (List PeerKey) → DumpsState → Cut → DumpsState
 dumps_after file selection index dumps (Whole r) =
     let at = at_record file r.offset r.seconds in
-    let content = body_kind_of selection.family r.kind r.subtype in
+    let content = body_kind_of selection.rules.family r.kind r.subtype in
     dumps_behind selection (begins selection at index dumps content r.body) dumps content
-    (units_in selection.family selection.states at (is_extended r.kind) index content r.body)
+    (units_in selection.rules selection.states at (is_extended r.kind) index content r.body)
 dumps_after file selection index dumps (Broken offset fault) = dumps
 
 -- ---- the index in force
@@ -251,13 +251,13 @@ index_before family earlier = option_and_then index_of_body (last_or None (filte
 abbrev pub dumps_behind_cuts : ℕ → UnitSelection → Option (List PeerKey) → DumpsState → List Cut → DumpsState
 dumps_behind_cuts file selection index dumps [] = dumps
 dumps_behind_cuts file selection index dumps (cut ∷ others) =
-    dumps_behind_cuts file selection (index_after selection.family index cut) (dumps_after file selection index dumps cut) others
+    dumps_behind_cuts file selection (index_after selection.rules.family index cut) (dumps_after file selection index dumps cut) others
 
 -- an index holds in its own file alone; dumps are followed from one file to the next
 abbrev pub found_in_file : UnitSelection → ℕ → DumpsState → List ℕ → List Found
 found_in_file selection file dumps bytes =
     flat_map_after
-    (λ earlier cut. found_at file selection (index_before selection.family earlier)
+    (λ earlier cut. found_at file selection (index_before selection.rules.family earlier)
     (dumps_behind_cuts file selection None dumps earlier) cut)
     [] (cuts 0 bytes)
 
@@ -279,7 +279,7 @@ abbrev pub found_from : ℕ → UnitSelection → Option (List PeerKey) → Dump
 found_from file selection index dumps [] = []
 found_from file selection index dumps (cut ∷ others) =
     found_at file selection index dumps cut
-    ++ found_from file selection (index_after selection.family index cut) (dumps_after file selection index dumps cut) others
+    ++ found_from file selection (index_after selection.rules.family index cut) (dumps_after file selection index dumps cut) others
 
 abbrev pub unit_of : Found → Option ReplayUnit
 unit_of (found.Unit unit) = Some unit

@@ -5,7 +5,7 @@ ghost use Rattle.mrt_frame.specs.Cuts.{body_limit};
 ghost use Rattle.peer_units.specs.Payloads.{IsSmallUnit, payload_bytes};
 
 use bgp_prefix::{Prefix, Sequence};
-use bgp_update::{FamilyMark, Unicast};
+use bgp_update::{Rules, Unicast};
 use peer_units::{BytesRef, Payload, Unit, UnitRef};
 use std::marker::Model;
 
@@ -55,11 +55,11 @@ impl BodyEnd {
 }
 
 /// The unit of a BGP4MP record; or one that clears a table, without bytes.
-pub(crate) type BodyUnit<F> = Unit<BodyEnd, Prefix<F>, FamilyMark<F>>;
+pub(crate) type BodyUnit<F> = Unit<BodyEnd, Prefix<F>, Rules<F>>;
 
 /// Returns the bytes of a payload: none of a state change or a clear.
 #[inline(always)]
-fn bytes_of<F: Unicast>(payload: &Payload<BodyEnd, Prefix<F>, FamilyMark<F>>) -> &[u8]
+fn bytes_of<F: Unicast>(payload: &Payload<BodyEnd, Prefix<F>, Rules<F>>) -> &[u8]
     ensures own { result.now ≡ payload_bytes payload.now }
     ensures few { length result.now ≤ body_limit }
 {

@@ -15,13 +15,15 @@ use crate::record_place::RecordAt;
 use crate::rib::{ListedEntry, list_entries, rib_head_at};
 use crate::rib_dumps::RibDumps;
 use bgp_prefix::{Memory, Prefix, Sequence};
-use bgp_update::{AttrError, Unicast};
+use bgp_update::{AttrError, Rules, Unicast};
 use peer_units::{PeerAddr, PeerKey, Selection};
 
 /// A RIB record along with a list of its entries, which are returned one by one.
 #[derive(Drop)]
-pub(crate) struct RibRecord<P> {
+pub(crate) struct RibRecord<P, K> {
     pub(crate) at: RecordAt,
+    /// By which rules its entries are read.
+    pub(crate) rules: K,
     pub(crate) prefix: P,
     pub(crate) body: Sequence<u8>,
     /// How many entries of the list have been returned.
@@ -49,31 +51,34 @@ fn keep_taken<F: Unicast>(selection: &Selection<F>, peers: &[PeerKey], list: &mu
     list.retain(|entry| selection.takes_peer(&peer_at(peers, entry.peer)));
 }
 
-impl<F: Unicast> RibRecord<Prefix<F>> {
+impl<F: Unicast> RibRecord<Prefix<F>, Rules<F>> {
     /// Reads a record against an index of these peers, and lists its entries. The list's memory is
     /// reused.
     pub(crate) fn read(
         at: RecordAt,
+        rules: Rules<F>,
         body: Sequence<u8>,
         add_path: bool,
         peers: &[PeerKey],
         list: &mut Vec<ListedEntry>,
-    ) -> Result<RibRecord<Prefix<F>>, AttrError>
+    ) -> Result<RibRecord<Prefix<F>, Rules<F>>, AttrError>
         requires { length body ≤ body_limit }
-        ensures units { Gives (units_left F.family peers.now list.new.items) result
-            (rib_units_in F.family at add_path (Some peers.now) body) }
+        ensures units { Gives (units_left peers.now list.new.items) result
+            (rib_units_in rules at add_path (Some peers.now) body) }
         ensures listed { IfOk result (AreListed peers.now list.new.items) }
         ensures first { IfOk result (λ r. r.given ≡ 0) }
         // A record takes no more room than for as many entries as its body can have.
         ensures room { vec_capacity list.new ≤ max (vec_capacity list.old) (length body / 8) }
     {
+        let _kept = rules.kept();
         let bytes = body.as_slice();
-        match rib_head_at(bytes) {
+        match rib_head_at::<F>(bytes) {
             Ok((head, rest)) => {
                 let start = bytes.len() - rest.len();
                 match list_entries(bytes, start, head.count, add_path, peers.len(), list) {
                     Ok(()) => Ok(RibRecord {
                         at,
+                        rules,
                         prefix: head.prefix,
                         body,
                         given: 0,
@@ -94,7 +99,7 @@ impl<F: Unicast> RibRecord<Prefix<F>> {
     #[inline(always)]
     pub(crate) fn is_pending(&self, peers: &[PeerKey], list: &[ListedEntry]) -> bool
         requires { AreListed peers.now list.now self.now }
-        ensures { result ≡ false ↔ (units_left F.family peers.now list.now self.now ≡ []) }
+        ensures { result ≡ false ↔ (units_left peers.now list.now self.now ≡ []) }
     {
         if self.given as usize == list.len() {
             return false;
@@ -112,8 +117,8 @@ impl<F: Unicast> RibRecord<Prefix<F>> {
     )
         requires listed { AreListed peers.now list.old.items self.now }
         requires first { self.now.given ≡ 0 }
-        ensures kept { units_left F.family peers.now list.new.items self.now
-            ≡ filter (is_selected selection.now) (units_left F.family peers.now list.old.items self.now) }
+        ensures kept { units_left peers.now list.new.items self.now
+            ≡ filter (is_selected selection.now) (units_left peers.now list.old.items self.now) }
         ensures listed { AreListed peers.now list.new.items self.now }
     {
         if !selection.takes_record(self.at.time(0), &self.prefix) {
@@ -132,7 +137,7 @@ impl<F: Unicast> RibRecord<Prefix<F>> {
     ) -> Result<(), Memory>
         requires { AreListed peers.now list.now self.now }
         ensures { OnOk result (dumps.new
-            ≡ record dumps.old { heard = heard_of Replace dumps.old.heard (units_left F.family peers.now list.now self.now) }) }
+            ≡ record dumps.old { heard = heard_of Replace dumps.old.heard (units_left peers.now list.now self.now) }) }
     {
         for entry in &list[self.given as usize..] {
             dumps.hear(peer_at(peers, entry.peer))?;
@@ -148,10 +153,11 @@ impl<F: Unicast> RibRecord<Prefix<F>> {
         list: &'a [ListedEntry],
     ) -> LentEntries<'a, F>
         requires { AreListed peers.now list.now self.now }
-        ensures { result ≡ units_left F.family peers.now list.now self.now }
+        ensures { result ≡ units_left peers.now list.now self.now }
     {
         LentEntries {
             at: self.at,
+            rules: self.rules,
             prefix: self.prefix,
             body: self.body.as_slice(),
             peers,
@@ -164,8 +170,8 @@ impl<F: Unicast> RibRecord<Prefix<F>> {
     #[inline(always)]
     pub(crate) fn consume(&mut self, count: usize, peers: &[PeerKey], list: &[ListedEntry])
         requires { AreListed peers.now list.now self.old }
-        ensures consumes { units_left F.family peers.now list.now self.new
-            ≡ drop count (units_left F.family peers.now list.now self.old) }
+        ensures consumes { units_left peers.now list.now self.new
+            ≡ drop count (units_left peers.now list.now self.old) }
         ensures listed { AreListed peers.now list.now self.new }
     {
         let left = list.len() - self.given as usize;

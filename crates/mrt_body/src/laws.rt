@@ -3,7 +3,7 @@
 ghost use Rattle.std.specs.Prelude.{◌≡◌, ◌↔◌, ℕ, Bool, List, Option, Ok, Err, ◌++◌, Some, length, map, true};
 ghost use Rattle.mrt_frame.specs.Bytes.{AreBytes};
 ghost use Rattle.mrt_frame.specs.declared.fault.Fault.{Fault};
-ghost use Rattle.bgp_update.specs.Families.{FamilyOf};
+ghost use Rattle.bgp_update.specs.Families.{Rules};
 ghost use Rattle.mrt_body.specs.declared.record_place.RecordAt.{RecordAt};
 ghost use Rattle.mrt_body.specs.declared.body_kind.BodyKind.{BodyKind};
 ghost use Rattle.peer_units.specs.Plain.{Unit as ReplayUnit, Found};
@@ -18,7 +18,7 @@ ghost use Rattle.std.specs.List.{All};
 ghost use Rattle.mrt_frame.specs.declared.error.ReplayError.TheVariants.{Read};
 ghost use Rattle.peer_units.specs.Choices.{UnitSelection};
 ghost use Rattle.mrt_body.specs.ToCome.{UnitsState, FailsBehind, GivesAllBefore, HasEnded, TakesFound, fresh_units};
-ghost use Rattle.peer_units.specs.States.{AreByRule, AreOfFamily};
+ghost use Rattle.peer_units.specs.States.{AreByRule, AreReadBy};
 ghost use Rattle.peer_units.specs.declared.rib_rule.RibRule.TheVariants.{Add};
 
 /// A record yields units exactly if its body agrees with its form (RFC 6396, 4.3 and 4.4; RFC 8050),
@@ -27,16 +27,16 @@ ghost use Rattle.peer_units.specs.declared.rib_rule.RibRule.TheVariants.{Add};
 pub fn bodies_agree_with_their_forms()
     ensures peers { (body : List ℕ) (peers : List PeerKey) → AreBytes body →
         (peers_in body ≡ Ok peers) ↔ IsIndexBody body peers }
-    ensures units { (family : FamilyOf) (rule : StateRule) (at : RecordAt) (extended : Bool) (index : Option (List PeerKey))
+    ensures units { (rules : Rules) (rule : StateRule) (at : RecordAt) (extended : Bool) (index : Option (List PeerKey))
         (content : BodyKind) (body : List ℕ) (units : List ReplayUnit) → AreBytes body →
-        (units_in family rule at extended index content body ≡ Ok units) ↔ Agrees family rule at extended index content body units }
-    ensures only { (family : FamilyOf) (rule : StateRule) (at : RecordAt) (extended : Bool) (index : Option (List PeerKey))
+        (units_in rules rule at extended index content body ≡ Ok units) ↔ Agrees rules rule at extended index content body units }
+    ensures only { (rules : Rules) (rule : StateRule) (at : RecordAt) (extended : Bool) (index : Option (List PeerKey))
         (content : BodyKind) (body : List ℕ) (units others : List ReplayUnit) →
-        Agrees family rule at extended index content body units →
-        Agrees family rule at extended index content body others → units ≡ others }
-    ensures refused { (family : FamilyOf) (rule : StateRule) (at : RecordAt) (extended : Bool) (index : Option (List PeerKey))
+        Agrees rules rule at extended index content body units →
+        Agrees rules rule at extended index content body others → units ≡ others }
+    ensures refused { (rules : Rules) (rule : StateRule) (at : RecordAt) (extended : Bool) (index : Option (List PeerKey))
         (content : BodyKind) (body : List ℕ) (fault : Fault) → AreBytes body →
-        (units_in family rule at extended index content body ≡ Err fault) ↔ IsRefused family rule at extended index content body fault }
+        (units_in rules rule at extended index content body ≡ Err fault) ↔ IsRefused rules rule at extended index content body fault }
 {}
 
 /// What calls of `Units::next` returned joins, in order. What was returned from `Units::new` on is a front
@@ -56,7 +56,7 @@ pub fn readings_give_all_found()
         (contents : List (List ℕ)) (left : List (Option (List ℕ))) (given : List Found) →
         TakesFound (fresh_units count max_records selection) (map (λ bytes. Some bytes) contents) last left given →
         HasEnded last → length left ≡ last.count →
-        (given ≡ found_in selection contents) × (last.records ≡ records_of contents) × (last.aside ≡ aside_of selection.family contents) }
+        (given ≡ found_in selection contents) × (last.records ≡ records_of contents) × (last.aside ≡ aside_of selection.rules.family contents) }
     ensures failed { (count max_records file : ℕ) (selection : UnitSelection) (last stopped : UnitsState)
         (contents : List (List ℕ)) (left after : List (Option (List ℕ))) (given : List Found) →
         TakesFound (fresh_units count max_records selection) (map (λ bytes. Some bytes) contents) last left given →
@@ -70,10 +70,10 @@ pub fn units_have_their_rule()
         AreByRule selection.states (units_of selection files) }
 {}
 
-/// Each message and each entry has the family that the selection asks for.
-pub fn units_have_their_family()
+/// Each message and each entry has the rules that the selection asks for.
+pub fn units_have_their_rules()
     ensures { (selection : UnitSelection) (files : List (List ℕ)) →
-        AreOfFamily selection.family (units_of selection files) }
+        AreReadBy selection.rules (units_of selection files) }
 {}
 
 /// Where RIB dumps are added, no unit is a clear.

@@ -6,7 +6,7 @@ ghost use Rattle.peer_units.specs.Payloads.{IsSmallUnit};
 use crate::record_place::RecordAt;
 use crate::rib::ListedEntry;
 use bgp_prefix::{Prefix, RouteKey};
-use bgp_update::{FamilyMark, Unicast};
+use bgp_update::{Rules, Unicast};
 use peer_units::{BytesRef, Payload, PeerKey, Unit, UnitRef};
 use std::marker::Model;
 
@@ -22,6 +22,7 @@ fn bytes_from(bytes: &[u8], start: usize, len: usize) -> &[u8]
 #[derive(Drop)]
 pub struct LentEntries<'a, F: Unicast> {
     pub(crate) at: RecordAt,
+    pub(crate) rules: Rules<F>,
     pub(crate) prefix: Prefix<F>,
     pub(crate) body: &'a [u8],
     pub(crate) peers: &'a [PeerKey],
@@ -37,11 +38,11 @@ impl<'a, F: Unicast> Model for LentEntries<'a, F> {
 
     ghost Value = { List ReplayUnit };
 
-    ghost view = { λ e. units_left F.family e.peers.now e.list.now
-        (record { at = e.at; prefix = e.prefix; body = e.body.now; given = e.given }) };
+    ghost view = { λ e. units_left e.peers.now e.list.now
+        (record { at = e.at; rules = e.rules; prefix = e.prefix; body = e.body.now; given = e.given }) };
 
     ghost invariant = { λ e. AreListed e.peers.now e.list.now
-        (record { at = e.at; prefix = e.prefix; body = e.body.now; given = e.given }) };
+        (record { at = e.at; rules = e.rules; prefix = e.prefix; body = e.body.now; given = e.given }) };
 }
 
 impl<'a, F: Unicast> LentEntries<'a, F> {
@@ -70,7 +71,7 @@ impl<'a, F: Unicast> LentEntries<'a, F> {
             payload: Payload::Entry {
                 key,
                 attrs: BytesRef::new(attrs),
-                family: FamilyMark::new(),
+                rules: self.rules,
             },
         };
         self.given += 1;

@@ -45,7 +45,7 @@ mod waiting;
 pub use body_kind::{BodyKind, body_kind_of};
 pub use laws::{
     added_dumps_clear_nothing, bodies_agree_with_their_forms, readings_give_all_found,
-    units_have_their_family, units_have_their_rule,
+    units_have_their_rule, units_have_their_rules,
 };
 pub use lent_units::{Lent, LentEntries, LentUnits};
 pub use remarks::{Marked, Remarks};

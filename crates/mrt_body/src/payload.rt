@@ -10,13 +10,14 @@ use crate::bgp4mp::{microseconds_at, session_peer_at, states_in};
 use crate::body_unit::{BodyEnd, BodyUnit};
 use crate::record_place::RecordAt;
 use bgp_prefix::Sequence;
-use bgp_update::{FamilyMark, Unicast, Width};
+use bgp_update::{Rules, Unicast, Width};
 use mrt_frame::Fault;
 use peer_units::{Payload, StateRule, Unit};
 
 /// Returns the unit of a message, whose bytes are the end of the body.
 #[tactic(auto, unfolding(crate::specs::Units::message_unit))]
 pub(crate) fn message_unit<F: Unicast>(
+    rules: Rules<F>,
     at: RecordAt,
     is_extended: bool,
     width: Width,
@@ -24,7 +25,7 @@ pub(crate) fn message_unit<F: Unicast>(
     body: Sequence<u8>,
 ) -> Result<BodyUnit<F>, Fault>
     requires { length body ≤ body_limit }
-    ensures reads { Reads (λ unit. unit) result (units_spec.message_unit F.family at is_extended width add_path body) }
+    ensures reads { Reads (λ unit. unit) result (units_spec.message_unit rules at is_extended width add_path body) }
     ensures small { IfOk result (λ unit. length (payload_bytes unit.payload) ≤ length body) }
 {
     let bytes = body.as_slice();
@@ -39,7 +40,7 @@ pub(crate) fn message_unit<F: Unicast>(
             bytes: BodyEnd::new(body, start),
             width,
             add_path,
-            family: FamilyMark::new(),
+            rules,
         },
     })
 }

@@ -14,7 +14,7 @@ use crate::record_place::RecordAt;
 use crate::rib::ListedEntry;
 use crate::rib_dumps::RibDumps;
 use bgp_prefix::{Memory, Prefix, Sequence};
-use bgp_update::{AttrError, Unicast};
+use bgp_update::{AttrError, Rules, Unicast};
 use peer_units::{PeerKey, Selection};
 use std::alloc::Global;
 use std::marker::Model;
@@ -26,7 +26,7 @@ pub(crate) struct Index<F: Unicast> {
     peers: Vec<PeerKey>,
     /// The entries of the last record. The list is kept from one record to the next, to reuse its memory.
     list: Vec<ListedEntry>,
-    last: Option<RibRecord<Prefix<F>>>,
+    last: Option<RibRecord<Prefix<F>, Rules<F>>>,
 }
 
 impl<F: Unicast> Model for Index<F> {
@@ -34,7 +34,7 @@ impl<F: Unicast> Model for Index<F> {
 
     ghost Value = { IndexState };
 
-    ghost view = { λ i. record { peers = i.peers.items; pending = pending_of F.family i.peers.items i.list.items i.last } };
+    ghost view = { λ i. record { peers = i.peers.items; pending = pending_of i.peers.items i.list.items i.last } };
 
     ghost invariant = { λ i. ArePending i.peers.items i.list.items i.last };
 }
@@ -60,13 +60,15 @@ impl<F: Unicast> Index<F> {
     ) -> Result<(), AttrError>
         requires { length body ≤ body_limit }
         ensures units { Gives (λ _. self.new.pending) result
-            (selected_units selection.now (rib_units_in F.family at add_path (Some self.old.peers) body)) }
+            (selected_units selection.now (rib_units_in selection.now.rules at add_path (Some self.old.peers) body)) }
         ensures peers { self.new.peers ≡ self.old.peers }
         ensures few { length self.new.pending ≤ 65535 }
         ensures none { OnErr result (self.new.pending ≡ []) }
     {
         self.last = None;
-        let record = RibRecord::read(at, body, add_path, self.peers.as_slice(), &mut self.list)?;
+        let rules = selection.rules();
+        let peers = self.peers.as_slice();
+        let record = RibRecord::read(at, rules, body, add_path, peers, &mut self.list)?;
         record.select(selection, self.peers.as_slice(), &mut self.list);
         self.last = Some(record);
         Ok(())

@@ -197,9 +197,9 @@ impl<F: Unicast> Units<F> {
     /// The selection is of the type's family.
     #[inline(always)]
     fn is_known(&self)
-        ensures { self.now.selection.family ≡ F.family }
+        ensures { self.now.selection.rules.family ≡ F.family }
     {
-        self.selection.is_known();
+        let _rules = self.selection.rules();
     }
 
     /// Whether a unit of the record that was cut last is to be returned.

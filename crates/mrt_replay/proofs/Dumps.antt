@@ -4,6 +4,7 @@ use Rattle.std.specs.Prelude.{codes, Option}
 use Rattle.std.specs.List.{flat_map}
 use Rattle.mrt_frame.proofs.Hexadecimal.{hex}
 use Rattle.bgp_update.specs.Families.{ipv4}
+use Rattle.bgp_update.specs.KeptAttributes.{no_attributes}
 use Rattle.peer_units.specs.Choices.{all_units}
 use Rattle.mrt_body.proofs.Dumps.{marker_16, session_four, session_two, plain_attributes, announcement_of, announcement_with}
 use Rattle.ip_text.specs.declared.address_form.AddressForm.TheVariants.{Full}
@@ -121,7 +122,7 @@ pub record Row : Type 0 where
 
 -- addresses in full
 abbrev pub in_full : Layout
-in_full = record { addresses = record { peers = Full; routes = Full; family = ipv4 } }
+in_full = record { peer_addresses = Full; route_addresses = Full; family = ipv4; attributes = no_attributes }
 
 -- these lines are the report on a file
 abbrev pub row : Request → List ℕ → List (List ℕ) → Row

@@ -37,7 +37,7 @@ pub record HasTakenFiles {T : Type 0} (Took : T → List ReplayUnit → List Dam
   pub records : (contents : List (List ℕ)) → drop start.file told ≡ map (λ bytes. Some bytes) contents →
       start.records + count_by is_whole (cuts_to_come start contents) ≡ now.records
   pub aside : (contents : List (List ℕ)) → drop start.file told ≡ map (λ bytes. Some bytes) contents →
-      start.aside + count_by (is_aside start.selection.family) (cuts_to_come start contents) ≡ now.aside
+      start.aside + count_by (is_aside start.selection.rules.family) (cuts_to_come start contents) ≡ now.aside
   pub took : (units : List ReplayUnit) (refused : List Damage) → Took before units refused →
       Took after (units ++ filter_map unit_of items) (refused ++ filter_map damage_of items)
   pub few : length (filter_map unit_of items) ≤ most_units_left start
@@ -82,7 +82,7 @@ pub record IsReplayOf {M A : Type 0} (selection : UnitSelection) (plan : Plan) (
       ≡ chosen_tables selection.prefixes (tables_of (units_of selection files) (refused_of selection files))
   pub records_counted : r.records ≡ records_of files
   pub units_counted : r.units ≡ length (units_of selection files)
-  pub aside_counted : r.aside ≡ aside_of selection.family files
+  pub aside_counted : r.aside ≡ aside_of selection.rules.family files
   pub few_rounds : r.rounds ≤ 2 * r.units / plan.ring + r.units / plan.batch + 2
   pub two_rounds : 2 ≤ r.rounds
   pub enough_rounds : r.units ≤ (r.rounds - 1) * plan.batch

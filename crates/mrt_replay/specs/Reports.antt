@@ -44,22 +44,22 @@ listing_of (request.History since same) choices = Some (record { since = since; 
 
 -- the lines of a request's rows on tables; a history is none of tables
 abbrev pub lines_of : Request → Layout → TablesState → List ℕ
-lines_of request.Tables layout tables = flat_map (route_line layout.addresses) (route_rows tables)
-lines_of request.Visibility layout tables = flat_map (visibility_line layout.addresses) (visibility_rows tables)
-lines_of request.Origins layout tables = flat_map (origin_line layout.addresses) (origin_rows tables)
-lines_of request.Seen layout tables = flat_map (seen_line layout.addresses) (seen_rows tables)
-lines_of (request.Churn since) layout tables = flat_map (churn_line layout.addresses) (churn_rows tables)
-lines_of request.Peers layout tables = flat_map (peer_line layout.addresses) (peer_rows tables)
+lines_of request.Tables layout tables = flat_map (route_line layout) (route_rows tables)
+lines_of request.Visibility layout tables = flat_map (visibility_line layout) (visibility_rows tables)
+lines_of request.Origins layout tables = flat_map (origin_line layout) (origin_rows tables)
+lines_of request.Seen layout tables = flat_map (seen_line layout) (seen_rows tables)
+lines_of (request.Churn since) layout tables = flat_map (churn_line layout) (churn_rows tables)
+lines_of request.Peers layout tables = flat_map (peer_line layout) (peer_rows tables)
 lines_of (request.Match addr) layout tables =
-    flat_map (route_line layout.addresses) (match_rows tables addr)
+    flat_map (route_line layout) (match_rows tables addr)
 lines_of request.Faults layout tables = flat_map fault_line (fault_rows tables)
 lines_of (request.History since same) layout tables = []
 
 -- the lines of the rows of what happened, or where none is listed those of the counts of watches
 abbrev pub told_lines : Layout → Listed → List RowState → List PeerWatch → List ℕ
-told_lines layout Nothing rows watches = flat_map (churn_line layout.addresses) (watch_churns watches)
-told_lines layout Changes rows watches = flat_map (history_line layout.addresses) rows
-told_lines layout All rows watches = flat_map (history_line layout.addresses) rows
+told_lines layout Nothing rows watches = flat_map (churn_line layout) (watch_churns watches)
+told_lines layout Changes rows watches = flat_map (history_line layout) rows
+told_lines layout All rows watches = flat_map (history_line layout) rows
 
 -- the lines of what happened to chosen prefixes, in the order of units, or of its counts, or of the rows on the tables
 -- that the units leave
@@ -96,7 +96,7 @@ RoundsOf (Some listing) plan s = s.rounds ≡ 0
 pub record IsSummary (request : Request) (selection : UnitSelection) (plan : Plan) (files : List (List ℕ)) (s : Summary) : Type 0 where
   pub records : s.records ≡ records_of files
   pub units : s.units ≡ length (units_of selection files)
-  pub aside : s.aside ≡ aside_of selection.family files
+  pub aside : s.aside ≡ aside_of selection.rules.family files
   pub damaged : s.damaged ≡ stopped (length (listed_faults selection files))
   pub peers : s.peers ≡ length (peers_of (units_of selection files))
   pub routes : s.routes

@@ -38,4 +38,4 @@ pub record IsHistoryOf {M A : Type 0} (listing : Listing) (selection : UnitSelec
   pub refused_kept : h.told.refused.items ≡ refused_of selection files
   pub records_counted : h.records ≡ records_of files
   pub units_counted : h.told.units ≡ length (units_of selection files)
-  pub aside_counted : h.aside ≡ aside_of selection.family files
+  pub aside_counted : h.aside ≡ aside_of selection.rules.family files

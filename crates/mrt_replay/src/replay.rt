@@ -266,11 +266,11 @@ fn write_told<F: WrittenAddress, M: PrefixMap<RouteId, Addr = F> + Drop, W: Sink
     match listed {
         Listed::Nothing => write_churn(
             out,
-            layout.addresses,
+            layout,
             watched_churn(alloc, told.watches.watched())?.as_slice(),
         ),
-        Listed::Changes => write_history(out, layout.addresses, &told.rows),
-        Listed::All => write_history(out, layout.addresses, &told.rows),
+        Listed::Changes => write_history(out, layout, &told.rows),
+        Listed::All => write_history(out, layout, &told.rows),
     }
 }
 
@@ -327,24 +327,23 @@ fn write_report<
         (lines_of (request_of F.bits request.now) layout tables.now) }
     ensures risen { result ≡ Err errors.Write → HasFailed (W.failure_count out.old) (W.failure_count out.new) }
 {
-    let forms = layout.addresses;
     match request {
-        Request::Tables => list_tables(rt, alloc, workers, out, forms, tables),
+        Request::Tables => list_tables(rt, alloc, workers, out, layout, tables),
         Request::Visibility => {
             let rows = visibility(rt, alloc, workers, tables)?;
-            write_visibility(out, forms, rows.as_slice())
+            write_visibility(out, layout, rows.as_slice())
         }
         Request::Origins => {
             let rows = origins(rt, alloc, workers, tables)?;
-            write_origins(out, forms, rows.as_slice())
+            write_origins(out, layout, rows.as_slice())
         }
         Request::Seen => {
             let rows = seen(rt, alloc, workers, tables)?;
-            write_seen(out, forms, rows.as_slice())
+            write_seen(out, layout, rows.as_slice())
         }
-        Request::Churn { since: _ } => write_churn(out, forms, churn(alloc, tables)?.as_slice()),
-        Request::Peers => write_peers(out, forms, peers(alloc, tables)?.as_slice()),
-        Request::Match(addr) => write_rows(out, forms, matches(alloc, tables, *addr)?.as_slice()),
+        Request::Churn { since: _ } => write_churn(out, layout, churn(alloc, tables)?.as_slice()),
+        Request::Peers => write_peers(out, layout, peers(alloc, tables)?.as_slice()),
+        Request::Match(addr) => write_rows(out, layout, matches(alloc, tables, *addr)?.as_slice()),
         Request::Faults => write_faults(out, faults(alloc, tables)?.as_slice()),
         Request::History { since: _, same: _ } => Ok(()),
     }

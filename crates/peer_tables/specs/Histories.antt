@@ -42,8 +42,8 @@ history_where takes history = filter (λ e. takes e.0.peer) history
 -- what brings about what a unit does
 abbrev pub by_of : Payload → By
 by_of (State from to rule) = by.State
-by_of (Message bytes width add_path family) = by.Update
-by_of (Entry key attrs family) = by.Rib
+by_of (Message bytes width add_path rules) = by.Update
+by_of (Entry rules key attrs) = by.Rib
 by_of Clear = by.Rib
 
 -- one thing that happened to a key of a peer, at a time in microseconds

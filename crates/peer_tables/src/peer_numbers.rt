@@ -172,14 +172,14 @@ impl Peers {
     /// Returns the number of a peer whose slot holds another one. It is seldom needed, and its locals are no part of
     /// the dealer's loop.
     #[inline(never)]
-    fn find_or_add(&mut self, peer: PeerKey) -> Result<usize, Memory>
-        ensures numbers { IfOk result (NumbersPeer self.old self.new peer) }
+    fn find_or_add(&mut self, peer: &PeerKey) -> Result<usize, Memory>
+        ensures numbers { IfOk result (NumbersPeer self.old self.new peer.now) }
         ensures same { OnErr result (self.new ≡ self.old) }
     {
-        if let Some(number) = self.look_up(&peer) {
+        if let Some(number) = self.look_up(peer) {
             return Ok(number);
         }
-        self.add(&peer)
+        self.add(peer)
     }
 
     /// Returns the number of a peer, which has this index in the index table if it has one. A peer is numbered when it
@@ -193,7 +193,7 @@ impl Peers {
         if let Some(number) = self.recent_at(slot, peer) {
             return Ok(number);
         }
-        let number = self.find_or_add(*peer)?;
+        let number = self.find_or_add(peer)?;
         self.remember(slot, number);
         Ok(number)
     }

@@ -11,8 +11,8 @@ own_payload bytes payload is = ap (λ b. payload_of_held (λ _. b) payload) is �
   where
     whole : (payload : Payload) → payload_of_held (λ _. payload_bytes payload) payload ≡ payload
     whole (State from to rule) = refl
-    whole (Message bytes width add_path family) = refl
-    whole (Entry key attrs family) = refl
+    whole (Message bytes width add_path rules) = refl
+    whole (Entry rules key attrs) = refl
     whole Clear = refl
 
 pub own_unit : (bytes : List ℕ) (u : ReplayUnit) → bytes ≡ payload_bytes u.payload → unit_of_held (λ _. bytes) u ≡ u

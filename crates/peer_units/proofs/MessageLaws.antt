@@ -12,7 +12,7 @@ use Rattle.mrt_frame.specs.declared.fault.Fault.TheVariants.{BadMarker, BadLengt
 use Rattle.mrt_frame.proofs.FieldLaws.{IsBytes, IsBytes-drop, two_bytes}
 use Rattle.mrt_frame.proofs.Items.{ok_is}
 use Rattle.bgp_prefix.specs.Keys.{RouteKey}
-use Rattle.bgp_update.specs.Families.{FamilyOf}
+use Rattle.bgp_update.specs.Families.{Rules}
 use Rattle.bgp_update.specs.declared.width.Width.{Width}
 use Rattle.bgp_update.specs.declared.width.Width.TheVariants.{Four}
 use Rattle.bgp_update.specs.declared.attr_error.AttrError.{AttrError}
@@ -95,35 +95,35 @@ same_message bytes kind other body rest read spelled small =
     let same : (kind, body) ≡ (other, rest) = ok_is (kind, body) (other, rest) again in
     (ap (λ (x : ℕ × List ℕ). x.0) same, ap (λ (x : ℕ × List ℕ). x.1) same)
 
-module _ (family : FamilyOf) (width : Width) (add_path : Bool) (bytes : List ℕ) where
-  pub no_event : (fault : Fault) → message_in bytes ≡ Err fault → (e : Event) → IsMessageEvent family width add_path bytes e → done e ≡ Err fault
+module _ (rules : Rules) (width : Width) (add_path : Bool) (bytes : List ℕ) where
+  pub no_event : (fault : Fault) → message_in bytes ≡ Err fault → (e : Event) → IsMessageEvent rules width add_path bytes e → done e ≡ Err fault
   no_event fault read (event.Change update) h = ok_never _ fault (sym (ap message_in h.1 ∙ message_again UPDATE h.0 h.2) ∙ read)
   no_event fault read event.Other h = ok_never _ fault (sym (ap message_in h.3 ∙ message_again h.0 h.1 h.4) ∙ read)
   no_event fault read e h = absurd h
 
-  pub other_found : (kind : ℕ) (body : List ℕ) → IsBytes bytes → message_in bytes ≡ Ok (kind, body) → kind ≢ UPDATE → IsMessageEvent family width add_path bytes event.Other
+  pub other_found : (kind : ℕ) (body : List ℕ) → IsBytes bytes → message_in bytes ≡ Ok (kind, body) → kind ≢ UPDATE → IsMessageEvent rules width add_path bytes event.Other
   other_found kind body fine read other = let t = message_takes bytes (kind, body) fine read in (kind, body, other, t.spelled, t.small)
 
-  pub other_only : (kind : ℕ) (body : List ℕ) → message_in bytes ≡ Ok (kind, body) → kind ≢ UPDATE → (e : Event) → IsMessageEvent family width add_path bytes e → done e ≡ Ok event.Other
+  pub other_only : (kind : ℕ) (body : List ℕ) → message_in bytes ≡ Ok (kind, body) → kind ≢ UPDATE → (e : Event) → IsMessageEvent rules width add_path bytes e → done e ≡ Ok event.Other
   other_only kind body read other (event.Change update) h = absurd (other (same_message bytes kind UPDATE body h.0 read h.1 h.2).0)
   other_only kind body read other event.Other h = refl
   other_only kind body read other e h = absurd h
 
-  pub change_found : (kind : ℕ) (body : List ℕ) (update : Update) → IsBytes bytes → message_in bytes ≡ Ok (kind, body) → kind ≡ UPDATE → ReadsAsUpdate family width add_path body update → IsMessageEvent family width add_path bytes (event.Change update)
+  pub change_found : (kind : ℕ) (body : List ℕ) (update : Update) → IsBytes bytes → message_in bytes ≡ Ok (kind, body) → kind ≡ UPDATE → ReadsAsUpdate rules width add_path body update → IsMessageEvent rules width add_path bytes (event.Change update)
   change_found kind body update fine read same reads =
       let t = message_takes bytes (kind, body) fine read in
       (body, t.spelled ∙ ap (λ (k : ℕ). message_bytes k body) same, t.small, reads)
 
   -- it is a change, to what the body reads as
-  change_only : (kind : ℕ) (body : List ℕ) → message_in bytes ≡ Ok (kind, body) → kind ≡ UPDATE → (e : Event) → IsMessageEvent family width add_path bytes e → (update : Update) × (e ≡ event.Change update) × ReadsAsUpdate family width add_path body update
+  change_only : (kind : ℕ) (body : List ℕ) → message_in bytes ≡ Ok (kind, body) → kind ≡ UPDATE → (e : Event) → IsMessageEvent rules width add_path bytes e → (update : Update) × (e ≡ event.Change update) × ReadsAsUpdate rules width add_path body update
   change_only kind body read same (event.Change update) h =
       let m = same_message bytes kind UPDATE body h.0 read h.1 h.2 in
-      (update, refl, subst (λ (b : List ℕ). ReadsAsUpdate family width add_path b update) (sym m.1) h.3)
+      (update, refl, subst (λ (b : List ℕ). ReadsAsUpdate rules width add_path b update) (sym m.1) h.3)
   change_only kind body read same event.Other h = absurd (h.2 (sym (same_message bytes kind h.0 body h.1 read h.3 h.4).0 ∙ same))
   change_only kind body read same e h = absurd h
 
   pub change_given : (kind : ℕ) (body : List ℕ) (r : Result Update AttrError) → message_in bytes ≡ Ok (kind, body) → kind ≡ UPDATE
-      → ((update : Update) → ReadsAsUpdate family width add_path body update → Gives (λ u. u) r (Ok update)) → (e : Event) → IsMessageEvent family width add_path bytes e → Gives (λ u. event.Change u) r (Ok e)
+      → ((update : Update) → ReadsAsUpdate rules width add_path body update → Gives (λ u. u) r (Ok update)) → (e : Event) → IsMessageEvent rules width add_path bytes e → Gives (λ u. event.Change u) r (Ok e)
   change_given kind body r read same only e h =
       let c = change_only kind body read same e h in
       mapped r c.0 e c.1 (only c.0 c.2)
@@ -135,8 +135,8 @@ module _ (family : FamilyOf) (width : Width) (add_path : Bool) (bytes : List ℕ
 
 -- ---- the event of an entry
 
-pub entry_given : (family : FamilyOf) (key : RouteKey) (attrs : List ℕ) (r : Result Route AttrError) → ((route : Route) → ReadsAsRoute family Four attrs route → Gives (λ x. x) r (Ok route)) → (e : Event) → IsEntryEvent family key attrs e → Gives (λ route. event.Rib key route) r (Ok e)
-entry_given family key attrs (Ok route) only (event.Rib other said) h = let same = only said h.1 in let key_is = h.0 in cc
-entry_given family key attrs (Err errors.Memory) only (event.Rib other said) h = tt
-entry_given family key attrs (Err (errors.Bad fault)) only (event.Rib other said) h = let same = only said h.1 in absurd cc
-entry_given family key attrs r only e h = absurd h
+pub entry_given : (rules : Rules) (key : RouteKey) (attrs : List ℕ) (r : Result Route AttrError) → ((route : Route) → ReadsAsRoute rules Four attrs route → Gives (λ x. x) r (Ok route)) → (e : Event) → IsEntryEvent rules key attrs e → Gives (λ route. event.Rib key route) r (Ok e)
+entry_given rules key attrs (Ok route) only (event.Rib other said) h = let same = only said h.1 in let key_is = h.0 in cc
+entry_given rules key attrs (Err errors.Memory) only (event.Rib other said) h = tt
+entry_given rules key attrs (Err (errors.Bad fault)) only (event.Rib other said) h = let same = only said h.1 in absurd cc
+entry_given rules key attrs r only e h = absurd h

@@ -8,7 +8,7 @@ use Rattle.peer_units.specs.Selections.{concerns}
 
 pub open_concerns : (choices : List PrefixChoice) (payload : Payload) → is_open choices ≡ true → concerns choices payload ≡ true
 open_concerns [] (State from to rule) h = refl
-open_concerns [] (Message bytes width add_path family) h = refl
-open_concerns [] (Entry key attrs family) h = refl
+open_concerns [] (Message bytes width add_path rules) h = refl
+open_concerns [] (Entry rules key attrs) h = refl
 open_concerns [] Clear h = refl
 open_concerns (choice ∷ choices) payload h = absurd cc

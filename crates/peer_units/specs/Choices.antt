@@ -2,7 +2,8 @@
 use Rattle.std.specs.Prelude.{ℕ, ◌+◌, ◌*◌, ◌/◌, ◌%◌, ◌^◌, ◌<◌, ◌≤◌, ◌==◌, ◌&&◌, ◌||◌, Bool, true, false, Option, Some, None, List, [], ◌∷◌, nat_lt, nat_le, if◌then◌else◌}
 use Rattle.std.specs.List.{list_any}
 use Rattle.bgp_prefix.specs.Prefixes.{IpPrefix, prefix_eq, covers}
-use Rattle.bgp_update.specs.Families.{FamilyOf, ipv4}
+use Rattle.bgp_update.specs.Families.{Rules, ipv4, rules_of}
+use Rattle.bgp_update.specs.KeptAttributes.{no_attributes}
 use Rattle.peer_units.specs.declared.choice.Reach.{Reach}
 use Rattle.peer_units.specs.declared.choice.Reach.TheVariants.{Exact, Inside, Around}
 use Rattle.peer_units.specs.Plain.{PrefixChoice}
@@ -21,8 +22,8 @@ pub record PeerShare : Type 0 where
   pub count : ℕ
 
 -- what is asked for: up to this second, the prefixes and the peers that these take, or all where there are none, and
--- the peers of this share; by which rules state changes and further RIB dumps are taken; and of which family the routes
--- are that are read
+-- the peers of this share; by which rules state changes and further RIB dumps are taken; and by which messages and
+-- entries are read
 pub record UnitSelection : Type 0 where
   pub until : Option ℕ
   pub prefixes : List PrefixChoice
@@ -30,23 +31,23 @@ pub record UnitSelection : Type 0 where
   pub share : Option PeerShare
   pub states : StateRule
   pub ribs : RibRule
-  pub family : FamilyOf
+  pub rules : Rules
 
--- where nothing but the family is named
-abbrev pub all_of : FamilyOf → UnitSelection
-all_of family = record {
+-- where nothing but the rules of reading is named
+abbrev pub all_of : Rules → UnitSelection
+all_of rules = record {
   until = None;
   prefixes = [];
   peers = [];
   share = None;
   states = Recorded;
   ribs = Add;
-  family = family;
+  rules = rules;
 }
 
 -- where nothing is named
 abbrev pub all_units : UnitSelection
-all_units = all_of ipv4
+all_units = all_of (rules_of ipv4 no_attributes)
 
 -- ---- prefixes
 

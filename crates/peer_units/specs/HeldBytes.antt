@@ -8,8 +8,8 @@ module _ {A B P K : Type 0} where
   -- the same payload, with the bytes that are held so
   abbrev pub payload_of_held : (A → B) → Payload A P K → Payload B P K
   payload_of_held bytes_of (State from to rule) = State from to rule
-  payload_of_held bytes_of (Message bytes width add_path family) = Message (bytes_of bytes) width add_path family
-  payload_of_held bytes_of (Entry key attrs family) = Entry key (bytes_of attrs) family
+  payload_of_held bytes_of (Message bytes width add_path rules) = Message (bytes_of bytes) width add_path rules
+  payload_of_held bytes_of (Entry rules key attrs) = Entry rules key (bytes_of attrs)
   payload_of_held bytes_of Clear = Clear
 
   -- the same unit
@@ -19,6 +19,6 @@ module _ {A B P K : Type 0} where
 -- what holds its bytes, if it has some, is such
 abbrev pub BytesMeet : {A P K : Type 0} → (A → Type 0) → Payload A P K → Type 0
 BytesMeet Is (State from to rule) = ⊤
-BytesMeet Is (Message bytes width add_path family) = Is bytes
-BytesMeet Is (Entry key attrs family) = Is attrs
+BytesMeet Is (Message bytes width add_path rules) = Is bytes
+BytesMeet Is (Entry rules key attrs) = Is attrs
 BytesMeet Is Clear = ⊤

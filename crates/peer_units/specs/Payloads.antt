@@ -11,8 +11,8 @@ use Rattle.peer_units.specs.declared.unit.Unit.{Unit as UnitOf}
 -- whether a payload is what a record has of the peer, and not that a RIB dump clears its table
 abbrev pub is_recorded : Payload → Bool
 is_recorded (State from to rule) = true
-is_recorded (Message bytes width add_path family) = true
-is_recorded (Entry key attrs family) = true
+is_recorded (Message bytes width add_path rules) = true
+is_recorded (Entry rules key attrs) = true
 is_recorded Clear = false
 
 -- ---- how many bytes a unit carries
@@ -21,8 +21,8 @@ module _ {P K : Type 0} where
   -- those of a message, or of an entry's attributes
   abbrev pub payload_bytes : PayloadOf (List ℕ) P K → List ℕ
   payload_bytes (State from to rule) = []
-  payload_bytes (Message bytes width add_path family) = bytes
-  payload_bytes (Entry key attrs family) = attrs
+  payload_bytes (Message bytes width add_path rules) = bytes
+  payload_bytes (Entry rules key attrs) = attrs
   payload_bytes Clear = []
 
   -- no more than the greatest body of a record

@@ -1,7 +1,7 @@
 -- Units and what they mean, with keys and choices of prefixes of either family.
 use Rattle.std.specs.Prelude.{ℕ, List}
 use Rattle.bgp_prefix.specs.Prefixes.{IpPrefix}
-use Rattle.bgp_update.specs.Families.{FamilyOf}
+use Rattle.bgp_update.specs.Families.{Rules}
 use Rattle.peer_units.specs.declared.choice.PrefixChoice.{PrefixChoice as PrefixChoiceOf}
 use Rattle.peer_units.specs.declared.unit.Payload.{Payload as PayloadOf}
 use Rattle.peer_units.specs.declared.unit.Unit.{Unit as UnitOf}
@@ -14,15 +14,15 @@ use Rattle.peer_units.specs.declared.decoded_events.DecodedEvent.{DecodedEvent a
 abbrev pub PrefixChoice : Type 0
 PrefixChoice = PrefixChoiceOf IpPrefix
 
--- what a unit says; a message and an entry have the family by which they are read
+-- what a unit says; a message and an entry have the rules by which they are read
 abbrev pub Payload : Type 0
-Payload = PayloadOf (List ℕ) IpPrefix FamilyOf
+Payload = PayloadOf (List ℕ) IpPrefix Rules
 
 abbrev pub Unit : Type 0
-Unit = UnitOf (List ℕ) IpPrefix FamilyOf
+Unit = UnitOf (List ℕ) IpPrefix Rules
 
 abbrev pub Found : Type 0
-Found = FoundOf IpPrefix FamilyOf
+Found = FoundOf IpPrefix Rules
 
 -- what a payload means
 abbrev pub Event : Type 0

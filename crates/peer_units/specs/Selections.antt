@@ -55,9 +55,9 @@ speaks_of choices (Err fault) = true
 -- its key, whatever its attributes are.
 abbrev pub concerns : List PrefixChoice → Payload → Bool
 concerns choices (State from to rule) = true
-concerns choices (Message bytes width add_path family) =
-    is_open choices || speaks_of choices (event_in (Message bytes width add_path family))
-concerns choices (Entry key attrs family) = is_chosen choices key.prefix
+concerns choices (Message bytes width add_path rules) =
+    is_open choices || speaks_of choices (event_in (Message bytes width add_path rules))
+concerns choices (Entry rules key attrs) = is_chosen choices key.prefix
 concerns choices Clear = true
 
 -- ---- what is selected

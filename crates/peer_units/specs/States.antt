@@ -1,7 +1,7 @@
 -- What state changes say of a session (RFC 4271, 8.2.2; RFC 6396, 4.4.1), by the rule that is asked for.
 use Rattle.std.specs.Prelude.{⊤, ◌≡◌, ℕ, Bool, true, not, ◌&&◌, List, Option, Some, None, ◌==◌, if◌then◌else◌}
 use Rattle.std.specs.List.{All}
-use Rattle.bgp_update.specs.Families.{FamilyOf}
+use Rattle.bgp_update.specs.Families.{Rules}
 use Rattle.peer_units.specs.declared.state_rule.StateRule.{StateRule}
 use Rattle.peer_units.specs.declared.state_rule.StateRule.TheVariants.{Recorded, Established}
 use Rattle.peer_units.specs.Plain.{Payload}
@@ -36,21 +36,21 @@ established_by Established old new = if breaks Established old new then Some (ne
 -- a payload that, if it is a state change, is taken by this rule
 abbrev pub IsByRule : StateRule → Payload → Type 0
 IsByRule rule (State from to other) = other ≡ rule
-IsByRule rule (Message bytes width add_path family) = ⊤
-IsByRule rule (Entry key attrs family) = ⊤
+IsByRule rule (Message bytes width add_path rules) = ⊤
+IsByRule rule (Entry rules key attrs) = ⊤
 IsByRule rule Clear = ⊤
 
 -- units whose state changes are all taken by this rule
 abbrev pub AreByRule : StateRule → List ReplayUnit → Type 0
 AreByRule rule units = All (λ unit. IsByRule rule unit.payload) units
 
--- a payload that, if it is a message or an entry, is read by this family
-abbrev pub IsOfFamily : FamilyOf → Payload → Type 0
-IsOfFamily family (State from to rule) = ⊤
-IsOfFamily family (Message bytes width add_path other) = other ≡ family
-IsOfFamily family (Entry key attrs other) = other ≡ family
-IsOfFamily family Clear = ⊤
+-- a payload that, if it is a message or an entry, is read by these rules
+abbrev pub IsReadBy : Rules → Payload → Type 0
+IsReadBy rules (State from to rule) = ⊤
+IsReadBy rules (Message bytes width add_path others) = others ≡ rules
+IsReadBy rules (Entry others key attrs) = others ≡ rules
+IsReadBy rules Clear = ⊤
 
--- units whose messages and entries are all read by this family
-abbrev pub AreOfFamily : FamilyOf → List ReplayUnit → Type 0
-AreOfFamily family units = All (λ unit. IsOfFamily family unit.payload) units
+-- units whose messages and entries are all read by these rules
+abbrev pub AreReadBy : Rules → List ReplayUnit → Type 0
+AreReadBy rules units = All (λ unit. IsReadBy rules unit.payload) units

@@ -4,6 +4,7 @@ ghost use Rattle.std.specs.Prelude.{◌≡◌, [], ◌∷◌, ◌++◌, List, If
 ghost use Rattle.bgp_prefix.specs.Keys.{RouteKey as Key};
 ghost use Rattle.bgp_update.specs.Decoded.{IsGrown};
 ghost use Rattle.peer_units.specs.DecodedEvents.{IsEventAt, IsOneMore, event_at};
+ghost use Rattle.bgp_update.specs.Values.{plain_rules};
 ghost use Rattle.peer_units.specs.Events.{entry_event_in, event_in, message_event_in};
 
 use crate::event_ref::EventRef;
@@ -13,7 +14,10 @@ use crate::state_rule::StateRule;
 use crate::unit::Payload;
 use crate::unit_ref::PayloadRef;
 use bgp_prefix::{Memory, Prefix, RouteKey};
-use bgp_update::{AttrError, RouteSpan, Unicast, UpdateSpans, Width, decode_entry, decode_update};
+use bgp_update::{
+    AttrError, RouteSpan, Rules, Unicast, UpdateSpans, Width, decode_asked_entry,
+    decode_asked_update, decode_entry, decode_update,
+};
 use mrt_frame::Fault;
 use std::alloc::Global;
 use std::marker::Model;
@@ -29,7 +33,8 @@ pub(crate) enum DecodedEvent<P = Prefix> {
     Change(UpdateSpans),
 }
 
-/// Decodes a message. Its keys and the packed bytes of its routes are appended to other ones.
+/// Decodes a message of which no attribute is asked for. Its keys and the packed bytes of its routes are appended to
+/// other ones.
 #[tactic(auto, unfolding(crate::specs::Events::message_event_in))]
 fn decode_message<F: Unicast>(
     alloc: Global,
@@ -40,7 +45,7 @@ fn decode_message<F: Unicast>(
     add_path: bool,
 ) -> Result<DecodedEvent<Prefix<F>>, Memory>
     ensures means { IfOk result (λ event. event_at keys.new.items bytes.new.items event
-        ≡ message_event_in F.family width add_path message.now) }
+        ≡ message_event_in (plain_rules F.family) width add_path message.now) }
     ensures there { IfOk result (IsEventAt keys.new.items bytes.new.items) }
     ensures keys { OnOk result (IsGrown keys.old.items keys.new.items) }
     ensures bytes { OnOk result (IsGrown bytes.old.items bytes.new.items) }
@@ -53,6 +58,37 @@ fn decode_message<F: Unicast>(
         return Ok(DecodedEvent::Other);
     }
     match decode_update(alloc, keys, bytes, body, width, add_path) {
+        Ok(spans) => Ok(DecodedEvent::Change(spans)),
+        Err(AttrError::Bad(fault)) => Ok(DecodedEvent::Damaged(fault)),
+        Err(AttrError::Memory) => Err(Memory),
+    }
+}
+
+/// The same of a message of which attributes are asked for.
+#[tactic(auto, unfolding(crate::specs::Events::message_event_in))]
+fn decode_asked_message<F: Unicast>(
+    alloc: Global,
+    keys: &mut Vec<RouteKey<Prefix<F>>>,
+    bytes: &mut Vec<u8>,
+    rules: Rules<F>,
+    message: &[u8],
+    width: Width,
+    add_path: bool,
+) -> Result<DecodedEvent<Prefix<F>>, Memory>
+    ensures means { IfOk result (λ event. event_at keys.new.items bytes.new.items event
+        ≡ message_event_in rules width add_path message.now) }
+    ensures there { IfOk result (IsEventAt keys.new.items bytes.new.items) }
+    ensures keys { OnOk result (IsGrown keys.old.items keys.new.items) }
+    ensures bytes { OnOk result (IsGrown bytes.old.items bytes.new.items) }
+{
+    let (kind, body) = match message_in(message) {
+        Ok(parts) => parts,
+        Err(fault) => return Ok(DecodedEvent::Damaged(fault)),
+    };
+    if kind != UPDATE {
+        return Ok(DecodedEvent::Other);
+    }
+    match decode_asked_update(alloc, keys, bytes, body, rules.kept(), width, add_path) {
         Ok(spans) => Ok(DecodedEvent::Change(spans)),
         Err(AttrError::Bad(fault)) => Ok(DecodedEvent::Damaged(fault)),
         Err(AttrError::Memory) => Err(Memory),
@@ -73,7 +109,8 @@ fn keep<P: Drop>(events: &mut Vec<DecodedEvent<P>>, event: DecodedEvent<P>) -> R
     Ok(())
 }
 
-/// Decodes the attributes of a RIB entry (RFC 6396, 4.3.4), and keeps what it means behind other events.
+/// Decodes the attributes of a RIB entry (RFC 6396, 4.3.4) of which none is asked for, and keeps what it means behind
+/// other events.
 #[inline(always)]
 fn keep_entry<F: Unicast>(
     alloc: Global,
@@ -83,7 +120,7 @@ fn keep_entry<F: Unicast>(
     attrs: &[u8],
 ) -> Result<(), Memory>
     ensures kept { OnOk result ((keys : List Key) → IsOneMore keys bytes.old.items events.old.items
-        keys bytes.new.items events.new.items (entry_event_in F.family key attrs.now)) }
+        keys bytes.new.items events.new.items (entry_event_in (plain_rules F.family) key attrs.now)) }
     ensures none { OnErr result (events.new.items ≡ []) }
 {
     match decode_entry::<F>(alloc, bytes, attrs, Width::Four) {
@@ -93,6 +130,71 @@ fn keep_entry<F: Unicast>(
             events.clear();
             Err(Memory)
         }
+    }
+}
+
+/// The same of an entry of which attributes are asked for.
+fn keep_asked_entry<F: Unicast>(
+    alloc: Global,
+    events: &mut Vec<DecodedEvent<Prefix<F>>>,
+    bytes: &mut Vec<u8>,
+    rules: Rules<F>,
+    key: RouteKey<Prefix<F>>,
+    attrs: &[u8],
+) -> Result<(), Memory>
+    ensures kept { OnOk result ((keys : List Key) → IsOneMore keys bytes.old.items events.old.items
+        keys bytes.new.items events.new.items (entry_event_in rules key attrs.now)) }
+    ensures none { OnErr result (events.new.items ≡ []) }
+{
+    match decode_asked_entry::<F>(alloc, bytes, attrs, rules.kept(), Width::Four) {
+        Ok(route) => keep(events, DecodedEvent::Rib { key, route }),
+        Err(AttrError::Bad(fault)) => keep(events, DecodedEvent::Damaged(fault)),
+        Err(AttrError::Memory) => {
+            events.clear();
+            Err(Memory)
+        }
+    }
+}
+
+/// The same as `keep_decoded`, where attributes may be asked for. It is told to be seldom called, so that the code
+/// where none is asked for is laid out and inlined as if nobody asked.
+#[cold]
+#[tactic(auto, unfolding(crate::specs::Events::event_in))]
+fn keep_asked<F: Unicast>(
+    alloc: Global,
+    events: &mut Vec<DecodedEvent<Prefix<F>>>,
+    keys: &mut Vec<RouteKey<Prefix<F>>>,
+    bytes: &mut Vec<u8>,
+    payload: &PayloadRef<'_, F>,
+) -> Result<(), Memory>
+    ensures kept { OnOk result (IsOneMore keys.old.items bytes.old.items events.old.items
+        keys.new.items bytes.new.items events.new.items (event_in payload.now)) }
+    ensures none { OnErr result (events.new.items ≡ []) }
+{
+    match payload {
+        Payload::State { from, to, rule } => {
+            let (rule, from, to) = (*rule, *from, *to);
+            keep(events, DecodedEvent::State { rule, from, to })
+        }
+        Payload::Message {
+            bytes: message,
+            width,
+            add_path,
+            rules,
+        } => {
+            let message = message.as_slice();
+            match decode_asked_message(alloc, keys, bytes, *rules, message, *width, *add_path) {
+                Ok(event) => keep(events, event),
+                Err(memory) => {
+                    events.clear();
+                    Err(memory)
+                }
+            }
+        }
+        Payload::Entry { rules, key, attrs } => {
+            keep_asked_entry(alloc, events, bytes, *rules, *key, attrs.as_slice())
+        }
+        Payload::Clear => keep(events, DecodedEvent::Clear),
     }
 }
 
@@ -120,10 +222,13 @@ fn keep_decoded<F: Unicast>(
             bytes: message,
             width,
             add_path,
-            family,
+            rules,
         } => {
-            family.is_known();
-            match decode_message(alloc, keys, bytes, message.as_slice(), *width, *add_path) {
+            if !rules.is_plain() {
+                return keep_asked(alloc, events, keys, bytes, payload);
+            }
+            let message = message.as_slice();
+            match decode_message(alloc, keys, bytes, message, *width, *add_path) {
                 Ok(event) => keep(events, event),
                 Err(memory) => {
                     events.clear();
@@ -131,8 +236,10 @@ fn keep_decoded<F: Unicast>(
                 }
             }
         }
-        Payload::Entry { key, attrs, family } => {
-            family.is_known();
+        Payload::Entry { rules, key, attrs } => {
+            if !rules.is_plain() {
+                return keep_asked(alloc, events, keys, bytes, payload);
+            }
             keep_entry(alloc, events, bytes, *key, attrs.as_slice())
         }
         Payload::Clear => keep(events, DecodedEvent::Clear),

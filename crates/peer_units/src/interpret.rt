@@ -10,7 +10,7 @@ use crate::message::message_in;
 use crate::unit::{Payload, PayloadOf};
 use crate::unit_ref::PayloadRef;
 use bgp_prefix::Prefix;
-use bgp_update::{AttrError, Unicast, Width, read_attrs, read_update};
+use bgp_update::{AttrError, Rules, Unicast, Width, read_attrs, read_update};
 use std::alloc::Global;
 
 /// The type of an UPDATE message.
@@ -20,15 +20,17 @@ pub(crate) const UPDATE: u8 = 2;
 #[tactic(auto, unfolding(crate::specs::Events::message_event_in))]
 fn message_event<F: Unicast>(
     alloc: Global,
+    rules: Rules<F>,
     bytes: &[u8],
     width: Width,
     add_path: bool,
 ) -> Result<Event<Prefix<F>>, AttrError>
-    ensures found { IfOk result (IsMessageEvent F.family width add_path bytes.now) }
-    ensures only { (e : Event IpPrefix) → IsMessageEvent F.family width add_path bytes.now e → Gives (λ e. e) result (Ok e) }
-    ensures exact { Gives (λ e. e) result (message_event_in F.family width add_path bytes.now) }
+    ensures found { IfOk result (IsMessageEvent rules width add_path bytes.now) }
+    ensures only { (e : Event IpPrefix) → IsMessageEvent rules width add_path bytes.now e → Gives (λ e. e) result (Ok e) }
+    ensures exact { Gives (λ e. e) result (message_event_in rules width add_path bytes.now) }
     ensures writable { IfOk result IsWritableEvent }
 {
+    let kept = rules.kept();
     let (kind, body) = match message_in(bytes) {
         Ok(message) => message,
         Err(fault) => return Err(AttrError::Bad(fault)),
@@ -36,7 +38,7 @@ fn message_event<F: Unicast>(
     if kind != UPDATE {
         return Ok(Event::Other);
     }
-    match read_update(alloc, body, width, add_path) {
+    match read_update(alloc, body, kept, width, add_path) {
         Ok(update) => Ok(Event::Change(update)),
         Err(error) => Err(error),
     }
@@ -76,14 +78,10 @@ fn whole_event<F: Unicast>(
             bytes,
             width,
             add_path,
-            family,
-        } => {
-            family.is_known();
-            message_event(alloc, bytes.as_slice(), *width, *add_path)
-        }
-        Payload::Entry { key, attrs, family } => {
-            family.is_known();
-            match read_attrs::<F>(alloc, attrs.as_slice(), Width::Four) {
+            rules,
+        } => message_event(alloc, *rules, bytes.as_slice(), *width, *add_path),
+        Payload::Entry { key, attrs, rules } => {
+            match read_attrs::<F>(alloc, attrs.as_slice(), rules.kept(), Width::Four) {
                 Ok(route) => Ok(Event::Rib(*key, route)),
                 Err(error) => Err(error),
             }

@@ -1,6 +1,8 @@
 //! Which of the units of files are returned.
 
 ghost use Rattle.std.specs.Prelude.{◌≡◌, IfOk, true};
+ghost use Rattle.bgp_update.specs.Families.{rules_of};
+ghost use Rattle.bgp_update.specs.KeptAttributes.{no_attributes};
 ghost use Rattle.peer_units.specs.Choices.{all_of, is_in_share, is_open};
 ghost use Rattle.peer_units.specs.Selections.{concerns, has_chosen, is_past, is_selected, speaks_of, takes_each_peer, takes_peer, takes_record};
 ghost use Rattle.peer_units.specs.DecodedEvents.{event_of};
@@ -15,14 +17,14 @@ use crate::state_rule::StateRule;
 use crate::unit::{Payload, PeerKey};
 use crate::unit_ref::{PayloadRef, UnitRef};
 use bgp_prefix::{Memory, Prefix, RouteKey};
-use bgp_update::Unicast;
+use bgp_update::{AttributeSet, Rules, Unicast};
 use std::alloc::Global;
 use std::marker::Model;
 
 /// Which of the units that records give are returned: those that meet each criterion. Any other unit is
 /// skipped, as if no record gave it. Refused records, index tables and the counts of records are the same
-/// for each selection. It also says by which rules state changes and further RIB dumps are taken, and by its type of
-/// which family the routes are that are read.
+/// for each selection. It also says by which rules state changes and further RIB dumps are taken, and messages and
+/// entries read.
 #[derive(Debug, Drop)]
 pub struct Selection<F: Unicast = u32> {
     /// The last second of which units are returned, in seconds since 1970 UTC. A unit is skipped if the
@@ -39,6 +41,8 @@ pub struct Selection<F: Unicast = u32> {
     states: StateRule,
     /// What a further RIB dump does to the routes before it.
     ribs: RibRule,
+    /// By which rules messages and entries are read.
+    rules: Rules<F>,
 }
 
 impl<F: Unicast> Model for Selection<F> {
@@ -53,7 +57,7 @@ impl<F: Unicast> Model for Selection<F> {
       share = s.share;
       states = s.states;
       ribs = s.ribs;
-      family = F.family;
+      rules = s.rules;
     } };
 }
 
@@ -120,7 +124,7 @@ fn is_in_share(share: Option<Share>, peer: &PeerKey) -> bool
 impl<F: Unicast> Selection<F> {
     /// Returns the selection of all units, with state changes taken as they are recorded and RIB dumps added.
     pub fn all(alloc: Global) -> Selection<F>
-        ensures { result ≡ all_of F.family }
+        ensures { result ≡ all_of (rules_of F.family no_attributes) }
     {
         Selection {
             until: None,
@@ -129,6 +133,7 @@ impl<F: Unicast> Selection<F> {
             share: None,
             states: StateRule::Recorded,
             ribs: RibRule::Add,
+            rules: Rules::new(AttributeSet::none()),
         }
     }
 
@@ -180,13 +185,23 @@ impl<F: Unicast> Selection<F> {
         self
     }
 
-    /// A selection is of no other family than that of its type. Does nothing.
-    #[inline(always)]
-    pub fn is_known(&self)
-        ensures { self.now.family ≡ F.family }
+    /// Returns the same selection, with these further attributes of routes kept.
+    pub fn keeping(mut self, kept: AttributeSet) -> Selection<F>
+        ensures { result ≡ record self { rules = rules_of F.family kept } }
     {
-        // A hint for the proof: what holds of a selection is known once it is read.
-        let _until = self.until;
+        self.rules = Rules::new(kept);
+        self
+    }
+
+    /// By which rules messages and entries are read.
+    #[inline(always)]
+    pub fn rules(&self) -> Rules<F>
+        ensures rules { result ≡ self.now.rules }
+        ensures family { self.now.rules.family ≡ F.family }
+    {
+        // A hint for the proof: what holds of rules is known once they are read.
+        let _kept = self.rules.kept();
+        self.rules
     }
 
     /// The rule by which further RIB dumps are taken.

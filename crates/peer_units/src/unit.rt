@@ -3,7 +3,7 @@
 use crate::payload_bytes::PayloadBytes;
 use crate::state_rule::StateRule;
 use bgp_prefix::{Prefix, RouteKey};
-use bgp_update::{FamilyMark, Width};
+use bgp_update::{Rules, Width};
 use mrt_frame::Fault;
 
 /// The address of a peer.
@@ -38,10 +38,9 @@ pub struct Damage {
 }
 
 /// What a unit says, as it appears in the record: its bytes are not yet interpreted. They are its own, or borrowed, or
-/// only their place is told, by the type of `B`. A message and an entry have a mark of the family by which they are
-/// read, which takes no room.
+/// only their place is told, by the type of `B`. A message and an entry have the rules by which they are read.
 #[derive(Debug, Drop)]
-pub enum Payload<B = PayloadBytes, P = Prefix, K = FamilyMark> {
+pub enum Payload<B = PayloadBytes, P = Prefix, K = Rules> {
     /// A state change (RFC 6396, 4.4.1): the old and the new state, any numbers, and the rule by which it is taken,
     /// which is that of the selection.
     State {
@@ -54,13 +53,13 @@ pub enum Payload<B = PayloadBytes, P = Prefix, K = FamilyMark> {
         bytes: B,
         width: Width,
         add_path: bool,
-        family: K,
+        rules: K,
     },
     /// An entry of a RIB record (RFC 6396, 4.3.4; with an identifier RFC 8050, 4.1).
     Entry {
+        rules: K,
         key: RouteKey<P>,
         attrs: B,
-        family: K,
     },
     /// Nothing that the peer said: a RIB dump begins that replaces what came before it, and clears the peer's table.
     Clear,
@@ -69,7 +68,7 @@ pub enum Payload<B = PayloadBytes, P = Prefix, K = FamilyMark> {
 /// A message, a state change or a RIB entry of one peer, or that a dump clears the peer's table. Its time is in
 /// microseconds since 1970 UTC.
 #[derive(Debug, Drop)]
-pub struct Unit<B = PayloadBytes, P = Prefix, K = FamilyMark> {
+pub struct Unit<B = PayloadBytes, P = Prefix, K = Rules> {
     pub place: Place,
     pub time: u64,
     pub peer: PeerKey,
@@ -78,16 +77,16 @@ pub struct Unit<B = PayloadBytes, P = Prefix, K = FamilyMark> {
 
 /// What comes next in the files: a unit, or a record that yields none.
 #[derive(Debug, Drop)]
-pub enum Found<P = Prefix, K = FamilyMark> {
+pub enum Found<P = Prefix, K = Rules> {
     Unit(Unit<PayloadBytes, P, K>),
     Refused(Damage),
 }
 
 /// A payload of a family.
-pub type PayloadOf<F> = Payload<PayloadBytes, Prefix<F>, FamilyMark<F>>;
+pub type PayloadOf<F> = Payload<PayloadBytes, Prefix<F>, Rules<F>>;
 
 /// A unit of a family.
-pub type UnitOf<F> = Unit<PayloadBytes, Prefix<F>, FamilyMark<F>>;
+pub type UnitOf<F> = Unit<PayloadBytes, Prefix<F>, Rules<F>>;
 
 /// What comes next in files that are read for a family.
-pub type FoundOf<F> = Found<Prefix<F>, FamilyMark<F>>;
+pub type FoundOf<F> = Found<Prefix<F>, Rules<F>>;

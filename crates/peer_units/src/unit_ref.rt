@@ -7,7 +7,7 @@ ghost use Rattle.peer_units.specs.Payloads.{is_recorded, payload_bytes};
 use crate::payload_bytes::PayloadBytes;
 use crate::unit::{Payload, Unit, UnitOf};
 use bgp_prefix::{Memory, Prefix};
-use bgp_update::{FamilyMark, Unicast};
+use bgp_update::{Rules, Unicast};
 use std::alloc::Global;
 use std::marker::Model;
 
@@ -44,15 +44,15 @@ impl<'a> BytesRef<'a> {
 }
 
 /// A payload of a family whose bytes are borrowed.
-pub type PayloadRef<'a, F> = Payload<BytesRef<'a>, Prefix<F>, FamilyMark<F>>;
+pub type PayloadRef<'a, F> = Payload<BytesRef<'a>, Prefix<F>, Rules<F>>;
 
 /// A unit of a family whose bytes are borrowed.
-pub type UnitRef<'a, F> = Unit<BytesRef<'a>, Prefix<F>, FamilyMark<F>>;
+pub type UnitRef<'a, F> = Unit<BytesRef<'a>, Prefix<F>, Rules<F>>;
 
-impl<B, F: Unicast> Payload<B, Prefix<F>, FamilyMark<F>> {
+impl<B, F: Unicast> Payload<B, Prefix<F>, Rules<F>> {
     /// Returns the payload with these bytes in place of its own. A state change and a clear have none.
     #[inline(always)]
-    pub fn with_bytes<C: Drop>(&self, bytes: C) -> Payload<C, Prefix<F>, FamilyMark<F>>
+    pub fn with_bytes<C: Drop>(&self, bytes: C) -> Payload<C, Prefix<F>, Rules<F>>
         ensures { result ≡ payload_of_held (λ _. bytes) self.now }
     {
         match self {
@@ -64,28 +64,28 @@ impl<B, F: Unicast> Payload<B, Prefix<F>, FamilyMark<F>> {
             Payload::Message {
                 width,
                 add_path,
-                family,
+                rules,
                 ..
             } => Payload::Message {
                 bytes,
                 width: *width,
                 add_path: *add_path,
-                family: *family,
+                rules: *rules,
             },
-            Payload::Entry { key, family, .. } => Payload::Entry {
+            Payload::Entry { key, rules, .. } => Payload::Entry {
                 key: *key,
                 attrs: bytes,
-                family: *family,
+                rules: *rules,
             },
             Payload::Clear => Payload::Clear,
         }
     }
 }
 
-impl<B, F: Unicast> Unit<B, Prefix<F>, FamilyMark<F>> {
+impl<B, F: Unicast> Unit<B, Prefix<F>, Rules<F>> {
     /// Returns the unit with these bytes in place of its own, if its payload has some.
     #[inline(always)]
-    pub fn with_bytes<C: Drop>(&self, bytes: C) -> Unit<C, Prefix<F>, FamilyMark<F>>
+    pub fn with_bytes<C: Drop>(&self, bytes: C) -> Unit<C, Prefix<F>, Rules<F>>
         ensures { result ≡ unit_of_held (λ _. bytes) self.now }
     {
         Unit {
@@ -97,7 +97,7 @@ impl<B, F: Unicast> Unit<B, Prefix<F>, FamilyMark<F>> {
     }
 }
 
-impl<'a, F: Unicast> Payload<BytesRef<'a>, Prefix<F>, FamilyMark<F>> {
+impl<'a, F: Unicast> Payload<BytesRef<'a>, Prefix<F>, Rules<F>> {
     /// Whether it is what a record has of the peer, and not that a RIB dump clears its table.
     #[inline(always)]
     pub fn is_recorded(&self) -> bool
@@ -122,7 +122,7 @@ impl<'a, F: Unicast> Payload<BytesRef<'a>, Prefix<F>, FamilyMark<F>> {
     }
 }
 
-impl<'a, F: Unicast> Unit<BytesRef<'a>, Prefix<F>, FamilyMark<F>> {
+impl<'a, F: Unicast> Unit<BytesRef<'a>, Prefix<F>, Rules<F>> {
     /// Returns the unit with a copy of its bytes. Up to 112 of them allocate nothing.
     // Inlined, since for a call every borrowed unit would be kept in memory, padding and all.
     #[inline(always)]
@@ -136,7 +136,7 @@ impl<'a, F: Unicast> Unit<BytesRef<'a>, Prefix<F>, FamilyMark<F>> {
     }
 }
 
-impl<F: Unicast> Payload<PayloadBytes, Prefix<F>, FamilyMark<F>> {
+impl<F: Unicast> Payload<PayloadBytes, Prefix<F>, Rules<F>> {
     /// Its bytes: none of a state change or a clear.
     #[inline(always)]
     fn as_slice(&self) -> &[u8]
@@ -158,7 +158,7 @@ impl<F: Unicast> Payload<PayloadBytes, Prefix<F>, FamilyMark<F>> {
     }
 }
 
-impl<F: Unicast> Unit<PayloadBytes, Prefix<F>, FamilyMark<F>> {
+impl<F: Unicast> Unit<PayloadBytes, Prefix<F>, Rules<F>> {
     /// Borrows the unit's bytes.
     #[tactic(auto, using(crate::proofs::HeldLaws::own_unit))]
     pub fn as_ref(&self) -> UnitRef<'_, F>

@@ -27,5 +27,5 @@ pub use counts::{Counts, FileCounts};
 pub use files::{Device, Files, OpenError};
 pub use input::{Dump, Input, Watched, inputs_of, packed_files_of};
 pub use naps::Naps;
-pub use output::{Output, Report, columns};
+pub use output::{Output, Report, header_of};
 pub use progress::{Board, Counter, terminal_width};

@@ -5,38 +5,67 @@ ghost use Rattle.std.specs.Io.KnownBytes.{append_known};
 ghost use Rattle.replay_io.specs.Devices.{report_contents};
 
 use crate::progress::Board;
+use bgp_update::{AttributeSet, KeptAttribute};
+use command_line::attribute_name;
 use mrt_frame::Counted;
 use report_request::Request;
 use run_io::Headed;
+use std::alloc::{AllocError, Global};
 use std::io::{self, Stdout, Write};
 
 static HISTORY_COLUMNS: &str =
-    "time|peer|what|by|prefix|as_path|next_hop|origin|med|local_pref|atomic|aggregator\n";
+    "time|peer|what|by|prefix|as_path|next_hop|origin|med|local_pref|atomic|aggregator";
 
-static ROUTE_COLUMNS: &str =
-    "peer|prefix|as_path|next_hop|origin|med|local_pref|atomic|aggregator\n";
+static ROUTE_COLUMNS: &str = "peer|prefix|as_path|next_hop|origin|med|local_pref|atomic|aggregator";
 
-/// Returns the names of a report's columns, as a line.
-pub fn columns<A>(request: &Request<A>) -> &'static str {
+/// Returns the names of the columns that a report has in any case.
+fn columns<A>(request: &Request<A>) -> &'static str {
     match request {
         Request::Tables | Request::Match(_) => ROUTE_COLUMNS,
-        Request::Visibility => "prefix|peers\n",
-        Request::Origins => "prefix|origins\n",
-        Request::Seen => "prefix|origin|peers\n",
+        Request::Visibility => "prefix|peers",
+        Request::Origins => "prefix|origins",
+        Request::Seen => "prefix|origin|peers",
         Request::Churn { since: _ } => {
-            "peer|new|changed|same|gone|void|resets|idle|refused|first|last\n"
+            "peer|new|changed|same|gone|void|resets|idle|refused|first|last"
         }
-        Request::Peers => "peer|state|routes|units|first|last|file|offset|entry\n",
+        Request::Peers => "peer|state|routes|units|first|last|file|offset|entry",
         Request::History { since: _, same: _ } => HISTORY_COLUMNS,
-        Request::Faults => "file|offset|entry|number|fault\n",
+        Request::Faults => "file|offset|entry|number|fault",
     }
+}
+
+/// Whether the lines of a report have the columns of further attributes.
+fn lists_routes<A>(request: &Request<A>) -> bool {
+    matches!(
+        request,
+        Request::Tables | Request::Match(_) | Request::History { since: _, same: _ }
+    )
+}
+
+/// Returns the names of a report's columns, as a line.
+pub fn header_of<A>(
+    alloc: Global,
+    request: &Request<A>,
+    attributes: AttributeSet,
+) -> Result<String, AllocError> {
+    let mut header = String::from_str(alloc, columns(request))?;
+    if lists_routes(request) {
+        for attribute in &KeptAttribute::ALL {
+            if attributes.has(*attribute) {
+                header.push('|')?;
+                header.push_str(attribute_name(*attribute))?;
+            }
+        }
+    }
+    header.push('\n')?;
+    Ok(header)
 }
 
 /// A writer with a header, perhaps an empty one, that precedes the first byte of the report. An empty report gets it
 /// when it is flushed. Any progress shown is cleared before it.
 #[derive(Drop)]
 pub struct Report<'a, W> {
-    out: Headed<W>,
+    out: Headed<'a, W>,
     board: Option<&'a Board>,
     error: Option<io::Error>,
 }
@@ -45,7 +74,7 @@ pub struct Report<'a, W> {
 pub type Output<'a> = Counted<Report<'a, Stdout>>;
 
 impl<'a, W: Write> Report<'a, W> {
-    pub fn new(out: W, header: &'static str, board: Option<&'a Board>) -> Report<'a, W>
+    pub fn new(out: W, header: &'a str, board: Option<&'a Board>) -> Report<'a, W>
         ensures { report_contents W.contents result ≡ append_known (W.contents out) header.now }
     {
         Report {

@@ -10,7 +10,7 @@ use mrt_frame::{Counted, ReplayError, Source};
 use mrt_replay::{Summary, run, status};
 use peer_units::{ChosenPrefixes, PeerChoice, PrefixChoice, RibRule, Selection, Share, StateRule};
 use prefix_maps::{Flat, Radix};
-use report_request::{AddressForm, AddressForms, Layout, Request};
+use report_request::{AddressForm, Layout, Request};
 use std::alloc::Global;
 use std::marker::Sync;
 use std::process::Abort;
@@ -28,9 +28,7 @@ pub const PLAN: Plan = Plan {
 
 /// Addresses in full.
 pub fn full() -> Layout {
-    Layout {
-        addresses: AddressForms::all(AddressForm::Full),
-    }
+    Layout::all(AddressForm::Full)
 }
 
 /// What a run answered, and what it wrote.

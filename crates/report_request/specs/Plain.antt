@@ -1,14 +1,10 @@
--- Forms of addresses and requests, with addresses of either family.
+-- Layouts and requests, with addresses of either family.
 use Rattle.std.specs.Prelude.{ℕ}
 use Rattle.bgp_update.specs.Families.{FamilyOf}
-use Rattle.report_request.specs.declared.forms.AddressForms.{AddressForms as AddressFormsOf}
-use Rattle.report_request.specs.declared.request.Layout.{Layout as LayoutOf}
+use Rattle.report_request.specs.declared.layout.Layout.{Layout as LayoutOf}
 use Rattle.report_request.specs.declared.request.Request.{Request as RequestOf}
 
--- forms of addresses, and the family of the routes
-abbrev pub AddressForms : Type 0
-AddressForms = AddressFormsOf FamilyOf
-
+-- how lines are written, and the family of the routes
 abbrev pub Layout : Type 0
 Layout = LayoutOf FamilyOf
 

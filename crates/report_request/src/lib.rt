@@ -4,9 +4,9 @@
 //! code of its own.
 #![tactic(auto)]
 
-mod forms;
+mod layout;
 mod request;
 
-pub use forms::{AddressForms, AddressFormsOf};
 pub use ip_text::AddressForm;
-pub use request::{Layout, LayoutOf, Request};
+pub use layout::{Layout, LayoutOf};
+pub use request::Request;

@@ -1,6 +1,3 @@
-use crate::forms::AddressForms;
-use bgp_update::FamilyMark;
-
 /// Which report is asked for.
 #[derive(Clone, Copy, Debug, PartialEq, Eq)]
 pub enum Request<A = u32> {
@@ -24,14 +21,3 @@ pub enum Request<A = u32> {
     /// route that was there are listed only with `same`.
     History { since: Option<u64>, same: bool },
 }
-
-/// How the lines of a report are written.
-#[derive(Clone, Copy)]
-#[derive_where(Debug, PartialEq, Eq)]
-pub struct Layout<K = FamilyMark> {
-    /// The forms of addresses, and the family of the routes.
-    pub addresses: AddressForms<K>,
-}
-
-/// How the lines of a report on routes of a family are written.
-pub type LayoutOf<F> = Layout<FamilyMark<F>>;

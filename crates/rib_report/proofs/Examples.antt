@@ -11,6 +11,7 @@ use Rattle.bgp_update.specs.declared.path.SegmentKind.TheVariants.{AsSet, AsSequ
 use Rattle.bgp_update.specs.declared.route.Origin.TheVariants.{Igp, Incomplete}
 use Rattle.bgp_update.specs.declared.route.Route.{Route}
 use Rattle.bgp_update.specs.Families.{ipv4, ipv6}
+use Rattle.bgp_update.specs.KeptAttributes.{no_attributes}
 use Rattle.bgp_update.specs.Paths.{PathSegment}
 use Rattle.peer_units.specs.declared.unit.PeerAddr.TheVariants.{V4, V6}
 use Rattle.peer_units.specs.declared.unit.PeerKey.{PeerKey}
@@ -19,19 +20,19 @@ use Rattle.adj_rib.specs.declared.churn.Churn.{Churn}
 use Rattle.peer_tables.specs.Tables.{Seat, TablesState}
 use Rattle.ip_text.specs.declared.address_form.AddressForm.TheVariants.{Full, Short}
 use Rattle.ip_text.specs.AddressTexts.{address_text}
-use Rattle.report_request.specs.Plain.{AddressForms}
+use Rattle.report_request.specs.Plain.{Layout}
 use Rattle.rib_report.specs.Reports.{route_rows, match_rows, visibility_rows, origin_rows, seen_rows, churn_rows, peer_rows, fault_rows, in_place_order}
 use Rattle.rib_report.specs.Lines.{route_line, visibility_line, origin_line, seen_line, churn_line, peer_line, fault_line}
 
 abbrev end : List ℕ
 end = 10 ∷ []
 
-abbrev full : AddressForms
-full = record { peers = Full; routes = Full; family = ipv4 }
+abbrev full : Layout
+full = record { peer_addresses = Full; route_addresses = Full; family = ipv4; attributes = no_attributes }
 
 -- a route of 192.0.2.1 whose path is 65000 and another segment
 abbrev route_to : PathSegment → Route
-route_to last = record { origin = Some Igp; path = Some (record { kind = AsSequence; numbers = 65000 ∷ [] } ∷ last ∷ []); next_hop = Some (next_hop.V4 0xc0000201); med = None; local_pref = None; atomic = false; aggregator = None }
+route_to last = record { origin = Some Igp; path = Some (record { kind = AsSequence; numbers = 65000 ∷ [] } ∷ last ∷ []); next_hop = Some (next_hop.V4 0xc0000201); med = None; local_pref = None; atomic = false; aggregator = None; kept = [] }
 
 abbrev to_sequence : ℕ → Route
 to_sequence asn = route_to (record { kind = AsSequence; numbers = asn ∷ [] })
@@ -104,6 +105,7 @@ whole_route = record {
   local_pref = Some 100;
   atomic = true;
   aggregator = Some (record { asn = 65000; addr = 0xc0000201 });
+  kept = [];
 }
 
 whole : flat_map (route_line full) (route_rows (record { seats = seat_at 0 0xc0000201 ((key_of 0x0a000000 8 4294967295, whole_route) ∷ []) ∷ []; refused = [] }))
@@ -120,7 +122,7 @@ abbrev last_peer : PeerKey
 last_peer = record { asn = 0xffffffff; addr = V6 0xffffffffffffffffffffffffffffffff }
 
 abbrev bare_route : Route
-bare_route = record { origin = None; path = None; next_hop = None; med = None; local_pref = None; atomic = false; aggregator = None }
+bare_route = record { origin = None; path = None; next_hop = None; med = None; local_pref = None; atomic = false; aggregator = None; kept = [] }
 
 -- an absent path is not an empty one
 absent_path : route_line full (record { peer = peer; key = key_of 0 0 0; route = bare_route }) ≡ codes "65000 192.0.2.1|0.0.0.0/0|-|-|-|-|-|-|-" ++ end
@@ -143,6 +145,7 @@ greatest_route = record {
   local_pref = Some 0xffffffff;
   atomic = true;
   aggregator = Some (record { asn = 0xffffffff; addr = 0xffffffff });
+  kept = [];
 }
 
 greatest_entry : route_line full (record { peer = last_peer; key = key_of 0xffffffff 32 0xffffffff; route = greatest_route })
@@ -153,11 +156,11 @@ greatest_entry = refl
 
 -- ---- short addresses, of peers and of next hops alike, and of one of them
 
-abbrev short : AddressForms
-short = record { peers = Short; routes = Short; family = ipv4 }
+abbrev short : Layout
+short = record { peer_addresses = Short; route_addresses = Short; family = ipv4; attributes = no_attributes }
 
-abbrev routes_short : AddressForms
-routes_short = record { peers = Full; routes = Short; family = ipv4 }
+abbrev routes_short : Layout
+routes_short = record { peer_addresses = Full; route_addresses = Short; family = ipv4; attributes = no_attributes }
 
 abbrev short_peer : PeerKey
 short_peer = record { asn = 65000; addr = V6 0x20010db8000000000001000000000001 }
@@ -179,11 +182,11 @@ short_peer_line = refl
 
 -- ---- prefixes of IPv6, in full and short
 
-abbrev full_routes : AddressForms
-full_routes = record { peers = Short; routes = Full; family = ipv6 }
+abbrev full_routes : Layout
+full_routes = record { peer_addresses = Short; route_addresses = Full; family = ipv6; attributes = no_attributes }
 
-abbrev short_routes : AddressForms
-short_routes = record { peers = Full; routes = Short; family = ipv6 }
+abbrev short_routes : Layout
+short_routes = record { peer_addresses = Full; route_addresses = Short; family = ipv6; attributes = no_attributes }
 
 abbrev wide_key : ℕ → ℕ → ℕ → RouteKey
 wide_key addr len id = record { prefix = record { addr = addr; len = len }; id = id }

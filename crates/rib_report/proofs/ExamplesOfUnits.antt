@@ -7,6 +7,7 @@ use Rattle.mrt_frame.proofs.Hexadecimal.{hex}
 use Rattle.mrt_frame.specs.declared.fault.Fault.TheVariants.{NoPeerIndex}
 use Rattle.mrt_frame.specs.Fields.{items_after}
 use Rattle.bgp_update.specs.Families.{ipv4}
+use Rattle.bgp_update.specs.KeptAttributes.{no_attributes}
 use Rattle.bgp_update.specs.declared.width.Width.TheVariants.{Four}
 use Rattle.bgp_update.specs.Equality.{route_eq}
 use Rattle.bgp_update.specs.Segments.{path_in, segment_at, segment_field_at}
@@ -27,15 +28,15 @@ use Rattle.peer_tables.specs.Peers.{peers_of}
 use Rattle.peer_tables.specs.Tables.{tables_of}
 use Rattle.ip_text.specs.declared.address_form.AddressForm.TheVariants.{Full}
 use Rattle.ip_text.specs.AddressTexts.{address_text}
-use Rattle.report_request.specs.Plain.{AddressForms}
+use Rattle.report_request.specs.Plain.{Layout}
 use Rattle.rib_report.specs.Reports.{route_rows, match_rows, visibility_rows, origin_rows, seen_rows, churn_rows, fault_rows}
 use Rattle.rib_report.specs.Lines.{route_line, visibility_line, origin_line, seen_line, churn_line, fault_line}
 
 abbrev end : List ℕ
 end = 10 ∷ []
 
-abbrev full : AddressForms
-full = record { peers = Full; routes = Full; family = ipv4 }
+abbrev full : Layout
+full = record { peer_addresses = Full; route_addresses = Full; family = ipv4; attributes = no_attributes }
 
 -- a message of a second, at an offset, of 65000 and this address
 abbrev message : ℕ → ℕ → ℕ → Bool → List ℕ → ReplayUnit
@@ -43,7 +44,7 @@ message offset seconds peer add_path bytes = record {
   place = record { file = 0; offset = offset; entry = None };
   time = seconds * 1000000;
   peer = record { asn = 65000; addr = addr.V4 peer };
-  payload = Message (hex (codes "FFFFFFFF FFFFFFFF FFFFFFFF FFFFFFFF") ++ bytes) Four add_path ipv4;
+  payload = Message (hex (codes "FFFFFFFF FFFFFFFF FFFFFFFF FFFFFFFF") ++ bytes) Four add_path (record { family = ipv4; kept = no_attributes });
 }
 
 -- origin IGP, path 65000, next hop 192.0.2.1

@@ -1,6 +1,7 @@
 pub mod TextLaws
 pub mod JoinLaws
 pub mod RowLines
+pub mod KeptColumns
 pub mod LineBlockLaws
 pub mod LineBlockLists
 pub mod RunLaws

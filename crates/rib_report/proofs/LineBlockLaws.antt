@@ -10,20 +10,20 @@ use Rattle.peer_tables.specs.declared.tables.Seated.{Seated}
 use Rattle.peer_tables.specs.Tables.{Seat}
 use Rattle.peer_tables.specs.Seats.{seat_of}
 use Rattle.peer_tables.proofs.RowLaws.{flat_map_twice}
-use Rattle.report_request.specs.Plain.{AddressForms}
+use Rattle.report_request.specs.Plain.{Layout}
 use Rattle.rib_report.specs.Reports.{entry_row, rows_of_seat}
 use Rattle.rib_report.specs.Lines.{route_line}
 use Rattle.rib_report.specs.Listings.{reached_lines, seat_lines, most_entries}
 
 -- a list of all entries of a peer's table
-pub lines_of_seat : (forms : AddressForms) (seat : Seat) (entries : List (RouteKey × Route)) → entries ≡ seat.session.table → reached_lines (record { key = seat.key; forms = forms }) entries ≡ seat_lines forms seat
-lines_of_seat forms seat entries whole =
-    flat_map_twice (entry_row seat.key) (route_line forms) entries ∙ ap (λ (es : List (RouteKey × Route)). flat_map (route_line forms) (map (entry_row seat.key) es)) whole
+pub lines_of_seat : (layout : Layout) (seat : Seat) (entries : List (RouteKey × Route)) → entries ≡ seat.session.table → reached_lines (record { key = seat.key; layout = layout }) entries ≡ seat_lines layout seat
+lines_of_seat layout seat entries whole =
+    flat_map_twice (entry_row seat.key) (route_line layout) entries ∙ ap (λ (es : List (RouteKey × Route)). flat_map (route_line layout) (map (entry_row seat.key) es)) whole
 
 -- the rows of every table
-pub lines_of_seats : (forms : AddressForms) (seats : List Seat) → flat_map (seat_lines forms) seats ≡ flat_map (route_line forms) (flat_map rows_of_seat seats)
-lines_of_seats forms [] = refl
-lines_of_seats forms (seat ∷ seats) = ap (λ l. seat_lines forms seat ++ l) (lines_of_seats forms seats) ∙ sym (flat_map-append (route_line forms) (rows_of_seat seat) (flat_map rows_of_seat seats))
+pub lines_of_seats : (layout : Layout) (seats : List Seat) → flat_map (seat_lines layout) seats ≡ flat_map (route_line layout) (flat_map rows_of_seat seats)
+lines_of_seats layout [] = refl
+lines_of_seats layout (seat ∷ seats) = ap (λ l. seat_lines layout seat ++ l) (lines_of_seats layout seats) ∙ sym (flat_map-append (route_line layout) (rows_of_seat seat) (flat_map rows_of_seat seats))
 
 -- a loop's step: the greatest number of one table more
 pub most_more : {M A : Type 0} (seats : List (Seated M A)) (i : ℕ) (seat : Seated M A) → i < length seats → seat ≡ get_or seats i seat

@@ -23,7 +23,7 @@ use Rattle.rib_report.proofs.JoinLaws.{between_join}
 pub Adds_next : {s t u : TextState} (peer : ShownPeer) (entries : List (RouteKey × Route)) (i j k : ℕ) → i ≤ j → j ≤ k
     → Adds s t (lines_between peer i j entries) → Adds t u (lines_between peer j k entries) → Adds s u (lines_between peer i k entries)
 Adds_next peer entries i j k ij jk f g =
-    let line : RouteKey × Route → List ℕ = λ e. route_line peer.forms (entry_row peer.key e) in
+    let line : RouteKey × Route → List ℕ = λ e. route_line peer.layout (entry_row peer.key e) in
     Adds_as (sym (flat_map-append line (between i j entries) (between j k entries)) ∙ ap (flat_map line) (between_join entries i j k ij jk)) (Adds_trans f g)
 
 -- no entry has no line

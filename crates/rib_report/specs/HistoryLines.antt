@@ -6,9 +6,10 @@ use Rattle.adj_rib.specs.declared.outcome.What.TheVariants.{New, Changed, Same, 
 use Rattle.peer_tables.specs.declared.history.By.{By}
 use Rattle.peer_tables.specs.declared.history.By.TheVariants.{Rib, Update, State}
 use Rattle.peer_tables.specs.Histories.{RowState}
-use Rattle.report_request.specs.Plain.{AddressForms}
+use Rattle.report_request.specs.Plain.{Layout}
 use Rattle.rib_report.specs.Fields.{line, field, time_text}
-use Rattle.rib_report.specs.Lines.{peer_text, key_text, path_text, next_hop_text, origin_text, atomic_text, aggregator_text}
+use Rattle.rib_report.specs.KeptTexts.{kept_columns}
+use Rattle.rib_report.specs.Lines.{peer_text, key_text, route_fields}
 
 abbrev pub what_text : What → List ℕ
 what_text New = codes "new"
@@ -23,14 +24,13 @@ by_text Rib = codes "rib"
 by_text Update = codes "update"
 by_text State = codes "state"
 
--- path, next hop, origin, MED, LOCAL_PREF, atomic, aggregator; `-` in each where there is no route
-abbrev pub route_fields : AddressForms → Option Route → List (List ℕ)
-route_fields forms None = codes "-" ∷ codes "-" ∷ codes "-" ∷ codes "-" ∷ codes "-" ∷ codes "-" ∷ codes "-" ∷ []
-route_fields forms (Some route) = field path_text route.path ∷ field (next_hop_text forms) route.next_hop
-    ∷ field origin_text route.origin ∷ field decimal route.med ∷ field decimal route.local_pref
-    ∷ atomic_text route.atomic ∷ field aggregator_text route.aggregator ∷ []
+-- those of a route; `-` in each where there is none
+abbrev pub listed_fields : Layout → Option Route → List (List ℕ)
+listed_fields layout None =
+    codes "-" ∷ codes "-" ∷ codes "-" ∷ codes "-" ∷ codes "-" ∷ codes "-" ∷ codes "-" ∷ kept_columns layout.attributes []
+listed_fields layout (Some route) = route_fields layout route
 
 -- time, peer, what happened, what brought it about, key, and the fields of its route
-abbrev pub history_line : AddressForms → RowState → List ℕ
-history_line forms row = line (time_text row.time ∷ peer_text forms row.peer ∷ what_text row.note.what ∷ by_text row.by
-    ∷ key_text forms row.note.key ∷ route_fields forms row.note.route)
+abbrev pub history_line : Layout → RowState → List ℕ
+history_line layout row = line (time_text row.time ∷ peer_text layout row.peer ∷ what_text row.note.what ∷ by_text row.by
+    ∷ key_text layout row.note.key ∷ listed_fields layout row.note.route)

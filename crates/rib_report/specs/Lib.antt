@@ -7,6 +7,7 @@ pub mod Rows
 pub mod Reports
 pub mod Listings
 pub mod LineBlocks
+pub mod KeptTexts
 pub mod Lines
 pub mod LineParts
 pub mod UnitReports

@@ -7,7 +7,7 @@ use Rattle.rib_report.specs.declared.reports.visibility.VisibilityRow.{Visibilit
 use Rattle.rib_report.specs.declared.reports.origins.OriginRow.{OriginRow as OriginRowOf}
 use Rattle.rib_report.specs.declared.reports.seen.SeenRow.{SeenRow as SeenRowOf}
 
--- a peer, and the forms of the addresses in its lines
+-- a peer, and the layout of its lines
 abbrev pub ShownPeer : Type 0
 ShownPeer = ShownPeerOf FamilyOf
 

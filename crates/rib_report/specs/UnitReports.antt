@@ -14,7 +14,7 @@ use Rattle.adj_rib.specs.Arrived.{recorded_places}
 use Rattle.adj_rib.specs.Churns.{churn_of, damaged_of, stopped, first_of}
 use Rattle.peer_tables.specs.Peers.{peers_of, units_of_peer}
 use Rattle.peer_tables.specs.Tables.{TablesState}
-use Rattle.report_request.specs.Plain.{AddressForms}
+use Rattle.report_request.specs.Plain.{Layout}
 use Rattle.rib_report.specs.Plain.{VisibilityRow, OriginRow, SeenRow}
 use Rattle.rib_report.specs.Rows.{TableRow}
 use Rattle.rib_report.specs.declared.reports.churn.ChurnRow.{ChurnRow}
@@ -104,20 +104,20 @@ pub record HasReportsOf (units : List ReplayUnit) (refused : List Damage) (table
   pub peers : peer_rows tables ≡ unit_peers units
   pub faults : fault_rows tables ≡ unit_faults units refused
 
--- The text of each report is the same, whatever the forms of addresses.
+-- The text of each report is the same, whatever the layout.
 pub record HaveSameTexts (one other : TablesState) : Type 0 where
-  pub routes : (forms : AddressForms) →
-      flat_map (route_line forms) (route_rows one) ≡ flat_map (route_line forms) (route_rows other)
-  pub matches : (forms : AddressForms) (addr : ℕ) →
-      flat_map (route_line forms) (match_rows one addr) ≡ flat_map (route_line forms) (match_rows other addr)
-  pub visibility : (forms : AddressForms) →
-      flat_map (visibility_line forms) (visibility_rows one) ≡ flat_map (visibility_line forms) (visibility_rows other)
-  pub origins : (forms : AddressForms) →
-      flat_map (origin_line forms) (origin_rows one) ≡ flat_map (origin_line forms) (origin_rows other)
-  pub seen : (forms : AddressForms) →
-      flat_map (seen_line forms) (seen_rows one) ≡ flat_map (seen_line forms) (seen_rows other)
-  pub churn : (forms : AddressForms) →
-      flat_map (churn_line forms) (churn_rows one) ≡ flat_map (churn_line forms) (churn_rows other)
-  pub peers : (forms : AddressForms) →
-      flat_map (peer_line forms) (peer_rows one) ≡ flat_map (peer_line forms) (peer_rows other)
+  pub routes : (layout : Layout) →
+      flat_map (route_line layout) (route_rows one) ≡ flat_map (route_line layout) (route_rows other)
+  pub matches : (layout : Layout) (addr : ℕ) →
+      flat_map (route_line layout) (match_rows one addr) ≡ flat_map (route_line layout) (match_rows other addr)
+  pub visibility : (layout : Layout) →
+      flat_map (visibility_line layout) (visibility_rows one) ≡ flat_map (visibility_line layout) (visibility_rows other)
+  pub origins : (layout : Layout) →
+      flat_map (origin_line layout) (origin_rows one) ≡ flat_map (origin_line layout) (origin_rows other)
+  pub seen : (layout : Layout) →
+      flat_map (seen_line layout) (seen_rows one) ≡ flat_map (seen_line layout) (seen_rows other)
+  pub churn : (layout : Layout) →
+      flat_map (churn_line layout) (churn_rows one) ≡ flat_map (churn_line layout) (churn_rows other)
+  pub peers : (layout : Layout) →
+      flat_map (peer_line layout) (peer_rows one) ≡ flat_map (peer_line layout) (peer_rows other)
   pub faults : flat_map fault_line (fault_rows one) ≡ flat_map fault_line (fault_rows other)

@@ -3,17 +3,18 @@
 ghost use Rattle.std.specs.Prelude.{◌≡◌, ◌+◌, ◌-◌, ◌*◌, ◌<◌, ◌≤◌, [], ◌∷◌, ◌++◌, true, length};
 ghost use Rattle.std.specs.List.{between};
 ghost use Rattle.rib_report.specs.Fields.{numbers_text};
-ghost use Rattle.rib_report.specs.LineParts.{line_beginning, line_end};
+ghost use Rattle.rib_report.specs.LineParts.{attribute_fields, line_beginning, line_end};
 ghost use Rattle.rib_report.specs.Texts.{empty_buffer, Adds};
 
 use crate::field::{Field, PeerText, ShownPeerOf};
+use crate::kept_columns::put_route_end;
 use crate::numbers::{NUMBERS_AT_ONCE, format_numbers};
-use crate::route_line::{END_BYTES, beginning_bytes, format_beginning, format_end};
+use crate::route_line::{ATTRIBUTES_BYTES, beginning_bytes, format_attributes, format_beginning};
 use crate::text::Text;
 use bgp_prefix::{Prefix, RouteKey};
 use bgp_update::{PackedSegment, RouteRef, Unicast};
-use ip_text::{DecimalTable, WrittenAddress};
-use report_request::AddressFormsOf;
+use ip_text::{DecimalTable, WrittenAddress, format_byte};
+use report_request::LayoutOf;
 use std::marker::Model;
 
 /// The maximum number of pending bytes.
@@ -134,18 +135,26 @@ pub(crate) fn put_peer_and_key<T: Text, F: WrittenAddress>(
     buffer.len = format_beginning(&mut buffer.bytes, buffer.len, &buffer.shorts, peer, key);
 }
 
-/// Adds what a line has after the path of its route.
+/// Adds what a line has after the path of its route. It is told that further attributes are seldom asked for.
 #[inline(always)]
 pub(crate) fn put_attributes<T: Text, F: Unicast>(
     text: &mut T,
-    forms: AddressFormsOf<F>,
+    layout: LayoutOf<F>,
     route: &RouteRef<'_>,
 )
-    ensures { Adds (T.state text.old) (T.state text.new) (line_end forms route.now) }
+    ensures { Adds (T.state text.old) (T.state text.new)
+        (attribute_fields layout route.now ++ line_end layout.attributes route.now.kept) }
 {
-    text.make_room(END_BYTES);
+    let asked = layout.attributes;
+    text.make_room(ATTRIBUTES_BYTES);
     let buffer = text.buffer_mut();
-    buffer.len = format_end(&mut buffer.bytes, buffer.len, &buffer.shorts, forms, route);
+    let at = format_attributes(&mut buffer.bytes, buffer.len, &buffer.shorts, layout, route);
+    if asked.is_empty() {
+        buffer.len = format_byte(&mut buffer.bytes, at, b'\n');
+    } else {
+        buffer.len = at;
+        put_route_end(text, asked, route);
+    }
 }
 
 /// Adds `segment[from..to]` in decimal, `before` in front of the first number and `separator` in front of each other.

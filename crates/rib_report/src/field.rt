@@ -15,7 +15,7 @@ use ip_text::{
 };
 use itoa::Buffer;
 use peer_units::{PeerAddr, PeerKey};
-use report_request::{AddressForms, AddressFormsOf};
+use report_request::{Layout, LayoutOf};
 use std::marker::Model;
 
 /// A value with a text of limited length: a field of a line, several of them, or a part of one.
@@ -209,18 +209,18 @@ fn format_addr(
     }
 }
 
-/// A peer, and the forms of the addresses in its lines.
+/// A peer, and the layout of its lines.
 #[derive(Clone, Copy)]
 pub(crate) struct ShownPeer<K = FamilyMark> {
     pub(crate) key: PeerKey,
-    pub(crate) forms: AddressForms<K>,
+    pub(crate) layout: Layout<K>,
 }
 
 /// A peer in a report on routes of a family.
 pub(crate) type ShownPeerOf<F> = ShownPeer<FamilyMark<F>>;
 
 impl<F: Unicast> Field for ShownPeer<FamilyMark<F>> {
-    ghost text_of = { λ p. peer_text p.forms p.key };
+    ghost text_of = { λ p. peer_text p.layout p.key };
 
     ghost longest = { 52 };
 
@@ -233,7 +233,7 @@ impl<F: Unicast> Field for ShownPeer<FamilyMark<F>> {
     fn format(self, bytes: &mut [u8], at: usize, shorts: &DecimalTable) -> usize {
         let at = format_number(bytes, at, shorts, self.key.asn);
         let at = format_byte(bytes, at, b' ');
-        format_addr(bytes, at, shorts, self.forms.peers, self.key.addr)
+        format_addr(bytes, at, shorts, self.layout.peer_addresses, self.key.addr)
     }
 }
 
@@ -263,7 +263,7 @@ impl Field for SessionUp {
 pub(crate) const PEER_BYTES: usize = 54;
 
 /// A peer's text with a bar behind it, made once for the lines of many of its routes. Contracts see it as the peer with
-/// the forms of addresses.
+/// the layout.
 #[derive(Drop)]
 pub(crate) struct PeerText<F: Unicast = u32> {
     peer: ShownPeerOf<F>,
@@ -283,7 +283,7 @@ impl<F: Unicast> Model for PeerText<F> {
     ghost invariant = { λ p. record {
       len : p.len ≤ 54;
       whole : length p.bytes ≡ 54;
-      text : take p.len p.bytes ≡ peer_text p.peer.forms p.peer.key ++ 124 ∷ [];
+      text : take p.len p.bytes ≡ peer_text p.peer.layout p.peer.key ++ 124 ∷ [];
     } };
 }
 
@@ -302,19 +302,19 @@ impl<F: Unicast> PeerText<F> {
         }
     }
 
-    /// The forms of addresses in its lines.
+    /// The layout of its lines.
     #[inline(always)]
-    pub(crate) fn forms(&self) -> AddressFormsOf<F>
-        ensures { result ≡ self.now.forms }
+    pub(crate) fn layout(&self) -> LayoutOf<F>
+        ensures { result ≡ self.now.layout }
     {
-        self.peer.forms
+        self.peer.layout
     }
 
     /// Writes the text and the bar.
     #[inline(always)]
     pub(crate) fn format(&self, bytes: &mut [u8], at: usize) -> usize
         requires { at + 54 ≤ length bytes.old }
-        ensures { Formats bytes.old at bytes.new result 54 (peer_text self.now.forms self.now.key ++ 124 ∷ []) }
+        ensures { Formats bytes.old at bytes.new result 54 (peer_text self.now.layout self.now.key ++ 124 ∷ []) }
     {
         // A copy is known not to overlap with `bytes`, so nothing tests whether it does.
         let block = self.bytes;
@@ -322,15 +322,15 @@ impl<F: Unicast> PeerText<F> {
     }
 }
 
-/// A prefix, and the forms of the addresses in its line.
+/// A prefix, and the layout of its line.
 #[derive(Clone, Copy)]
 pub(crate) struct ShownPrefix<P = Prefix, K = FamilyMark> {
     pub(crate) prefix: P,
-    pub(crate) forms: AddressForms<K>,
+    pub(crate) layout: Layout<K>,
 }
 
 impl<F: WrittenAddress> Field for ShownPrefix<Prefix<F>, FamilyMark<F>> {
-    ghost text_of = { λ p. prefix_text p.forms p.prefix };
+    ghost text_of = { λ p. prefix_text p.layout p.prefix };
 
     ghost longest = { F.MOST_BYTES + 4 };
 
@@ -341,9 +341,9 @@ impl<F: WrittenAddress> Field for ShownPrefix<Prefix<F>, FamilyMark<F>> {
     #[inline(always)]
     #[tactic(auto, using(ip_text::proofs::FormatLaws::Formats_trans))]
     fn format(self, bytes: &mut [u8], at: usize, shorts: &DecimalTable) -> usize {
-        self.forms.family.is_known();
+        self.layout.family.is_known();
         let addr = self.prefix.addr();
-        let at = addr.format(bytes, at, shorts, self.forms.routes);
+        let at = addr.format(bytes, at, shorts, self.layout.route_addresses);
         let at = format_byte(bytes, at, b'/');
         format_short(bytes, at, shorts, self.prefix.len() as u32)
     }
@@ -362,15 +362,15 @@ fn format_identifier(bytes: &mut [u8], at: usize, shorts: &DecimalTable, id: u32
     }
 }
 
-/// A key, and the forms of the addresses in its line.
+/// A key, and the layout of its line.
 #[derive(Clone, Copy)]
 pub(crate) struct ShownKey<P = Prefix, K = FamilyMark> {
     pub(crate) key: RouteKey<P>,
-    pub(crate) forms: AddressForms<K>,
+    pub(crate) layout: Layout<K>,
 }
 
 impl<F: WrittenAddress> Field for ShownKey<Prefix<F>, FamilyMark<F>> {
-    ghost text_of = { λ k. key_text k.forms k.key };
+    ghost text_of = { λ k. key_text k.layout k.key };
 
     ghost longest = { F.MOST_BYTES + 4 + 13 };
 
@@ -381,9 +381,9 @@ impl<F: WrittenAddress> Field for ShownKey<Prefix<F>, FamilyMark<F>> {
     #[inline(always)]
     #[tactic(auto, using(ip_text::proofs::FormatLaws::Formats_trans))]
     fn format(self, bytes: &mut [u8], at: usize, shorts: &DecimalTable) -> usize {
-        let ShownKey { key, forms } = self;
+        let ShownKey { key, layout } = self;
         let RouteKey { prefix, id } = key;
-        let at = ShownPrefix { prefix, forms }.format(bytes, at, shorts);
+        let at = ShownPrefix { prefix, layout }.format(bytes, at, shorts);
         format_identifier(bytes, at, shorts, id)
     }
 }
@@ -415,17 +415,17 @@ pub(crate) fn format_next_hop<F: Unicast>(
     bytes: &mut [u8],
     at: usize,
     shorts: &DecimalTable,
-    forms: AddressFormsOf<F>,
+    layout: LayoutOf<F>,
     hop: Option<NextHop>,
 ) -> usize
     requires { at + 80 < length bytes.old }
-    ensures { Formats bytes.old at bytes.new result 80 (field (next_hop_text forms) hop) }
+    ensures { Formats bytes.old at bytes.new result 80 (field (next_hop_text layout) hop) }
 {
     match hop {
         Some(NextHop::V4(addr)) => format_ipv4(bytes, at, shorts, addr),
-        Some(NextHop::V6(addr)) => format_ipv6(bytes, at, shorts, forms.routes, addr),
+        Some(NextHop::V6(addr)) => format_ipv6(bytes, at, shorts, layout.route_addresses, addr),
         Some(NextHop::V6Pair(global, local)) => {
-            format_ipv6_pair(bytes, at, shorts, forms.routes, global, local)
+            format_ipv6_pair(bytes, at, shorts, layout.route_addresses, global, local)
         }
         None => format_byte(bytes, at, b'-'),
     }

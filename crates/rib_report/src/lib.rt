@@ -20,10 +20,10 @@
 //!   A column is one more element of that value, and one more in the definition of the line. Each call is given the
 //!   position of its first byte and returns the one after its last: as a field of the buffer it would be read again
 //!   after each byte.
-//! - The forms of IPv6 addresses are an argument of what writes lines, and of the definitions of lines that have some:
-//!   one for peers and one for routes. A peer goes on its way with them (`ShownPeer`). The texts of addresses and of
-//!   the numbers in them are those of `ip_text`.
-//! - Reports are generic in the family of the addresses of the map. With the forms goes a mark of the family of no size
+//! - How lines are written (`Layout`) is an argument of what writes lines, and of their definitions: the forms of IPv6
+//!   addresses, one for peers and one for routes. A peer goes on its way with it (`ShownPeer`). The texts of addresses
+//!   and of the numbers in them are those of `ip_text`.
+//! - Reports are generic in the family of the addresses of the map. A layout has a mark of the family of no size
 //!   (`FamilyMark`), by which definitions write prefixes (`address_text`); the code writes them by the type
 //!   (`WrittenAddress`), so a line of IPv4 has no test of the family, and no more room than its texts may take.
 //! - A peer's text is made once for its lines.
@@ -34,6 +34,7 @@
 
 mod buffer;
 mod field;
+mod kept_columns;
 mod laws;
 mod line;
 mod merge;
@@ -56,7 +57,7 @@ pub use peer_tables::{
     By, Gathered, HistoryRows, Listed, Listing, Seated, Tables, collect, collected_stand_for_units,
     lanes_make_no_difference, tables_are_of_units,
 };
-pub use report_request::{AddressForms, AddressFormsOf};
+pub use report_request::{Layout, LayoutOf};
 pub use reports::churn::{ChurnRow, churn, watched_churn, write_churn};
 pub use reports::faults::{faults, write_faults};
 pub use reports::history::write_history;

@@ -3,16 +3,16 @@
 ghost use Rattle.std.specs.Prelude.{◌≡◌, ℕ, ◌+◌, ◌<◌, List, length};
 ghost use Rattle.std.specs.List.{between, flat_map};
 ghost use Rattle.rib_report.specs.Texts.{Adds};
-ghost use Rattle.report_request.specs.Plain.{AddressForms as Forms};
+ghost use Rattle.report_request.specs.Plain.{Layout};
 
 use crate::text::Text;
 use bgp_update::Unicast;
-use report_request::AddressFormsOf;
+use report_request::LayoutOf;
 
 /// The content of one line of a report on routes of a family.
 pub(crate) trait Line<F: Unicast> {
-    /// The line, including its end, by the forms of addresses.
-    ghost line: { Forms → Self → List ℕ };
+    /// The line, including its end, by the layout.
+    ghost line: { Layout → Self → List ℕ };
 
     /// Prefetches what the row refers to, if it lies elsewhere in memory, by reading a little of it, and returns
     /// about how many bytes that is.
@@ -21,8 +21,8 @@ pub(crate) trait Line<F: Unicast> {
     }
 
     /// Adds the line.
-    fn put<T: Text>(&self, text: &mut T, forms: &AddressFormsOf<F>)
-        ensures { Adds (T.state text.old) (T.state text.new) (line forms.now self.now) };
+    fn put<T: Text>(&self, text: &mut T, layout: &LayoutOf<F>)
+        ensures { Adds (T.state text.old) (T.state text.new) (line layout.now self.now) };
 }
 
 /// Rows of a report, in order, which are reached by their numbers.
@@ -31,8 +31,8 @@ pub(crate) trait RowList<F: Unicast>: Copy {
 
     ghost rows: { Self → List Row };
 
-    /// The line of a row, including its end, by the forms of addresses.
-    ghost line_of: { Forms → Row → List ℕ };
+    /// The line of a row, including its end, by the layout.
+    ghost line_of: { Layout → Row → List ℕ };
 
     /// The number of rows.
     fn len(self) -> usize
@@ -43,10 +43,10 @@ pub(crate) trait RowList<F: Unicast>: Copy {
         requires { at < length (rows self) };
 
     /// Adds the line of a row.
-    fn put<T: Text>(self, at: usize, text: &mut T, forms: &AddressFormsOf<F>)
+    fn put<T: Text>(self, at: usize, text: &mut T, layout: &LayoutOf<F>)
         requires { at < length (rows self) }
         ensures { Adds (T.state text.old) (T.state text.new)
-            (flat_map (line_of forms.now) (between at (at + 1) (rows self))) };
+            (flat_map (line_of layout.now) (between at (at + 1) (rows self))) };
 }
 
 impl<F: Unicast, R: Line<F>> RowList<F> for &[R] {
@@ -65,7 +65,7 @@ impl<F: Unicast, R: Line<F>> RowList<F> for &[R] {
     }
 
     #[tactic(auto, using(crate::proofs::JoinLaws::Adds_one))]
-    fn put<T: Text>(self, at: usize, text: &mut T, forms: &AddressFormsOf<F>) {
-        self[at].put(text, forms);
+    fn put<T: Text>(self, at: usize, text: &mut T, layout: &LayoutOf<F>) {
+        self[at].put(text, layout);
     }
 }

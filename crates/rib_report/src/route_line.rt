@@ -5,7 +5,7 @@ ghost use Rattle.rib_report.specs.Texts.{Adds};
 ghost use Rattle.ip_text.specs.Formats.{Formats};
 ghost use Rattle.rib_report.specs.Fields.{field, numbers_text};
 ghost use Rattle.rib_report.specs.Lines.{kind_text, path_text, route_line};
-ghost use Rattle.rib_report.specs.LineParts.{line_beginning, line_end};
+ghost use Rattle.rib_report.specs.LineParts.{attribute_fields, line_beginning, line_end};
 
 use crate::buffer::{put, put_attributes, put_peer_and_key};
 use crate::field::{Atomic, Byte, Field, PeerText, ShownKey, format_next_hop};
@@ -14,7 +14,7 @@ use crate::text::Text;
 use bgp_prefix::{Prefix, RouteKey};
 use bgp_update::{PackedSegment, PackedSegments, RouteRef, SegmentKind, Unicast};
 use ip_text::{DecimalTable, WrittenAddress, format_byte};
-use report_request::AddressFormsOf;
+use report_request::LayoutOf;
 
 /// Returns the most bytes of what a line begins with, and one more.
 #[inline(always)]
@@ -41,29 +41,29 @@ pub(crate) fn format_beginning<F: WrittenAddress>(
     let at = peer.format(bytes, at);
     let shown = ShownKey {
         key: *key,
-        forms: peer.forms(),
+        layout: peer.layout(),
     };
     shown.format(bytes, at, shorts)
 }
 
-/// The most bytes of what a line has after the path, and one more.
-pub(crate) const END_BYTES: usize = 160;
+/// The most bytes of the fields after the path, of the end of a line, and one more.
+pub(crate) const ATTRIBUTES_BYTES: usize = 160;
 
-/// Writes what a line has after the path of its route: a bar before each field, and the end of the line. Each field is
-/// written as soon as it is read, so that none of them is stored in between.
+/// Writes the fields that each route has after the path, a bar before each. Each field is written as soon as it is read,
+/// so that none of them is stored in between.
 #[inline(always)]
-pub(crate) fn format_end<F: Unicast>(
+pub(crate) fn format_attributes<F: Unicast>(
     bytes: &mut [u8],
     at: usize,
     shorts: &DecimalTable,
-    forms: AddressFormsOf<F>,
+    layout: LayoutOf<F>,
     route: &RouteRef<'_>,
 ) -> usize
-    requires { at + 159 < length bytes.old }
-    ensures { Formats bytes.old at bytes.new result 159 (line_end forms route.now) }
+    requires { at + 158 < length bytes.old }
+    ensures { Formats bytes.old at bytes.new result 158 (attribute_fields layout route.now) }
 {
     let at = format_byte(bytes, at, b'|');
-    let at = format_next_hop(bytes, at, shorts, forms, route.next_hop());
+    let at = format_next_hop(bytes, at, shorts, layout, route.next_hop());
     let at = format_byte(bytes, at, b'|');
     let at = route.origin().format(bytes, at, shorts);
     let at = format_byte(bytes, at, b'|');
@@ -73,8 +73,7 @@ pub(crate) fn format_end<F: Unicast>(
     let at = format_byte(bytes, at, b'|');
     let at = Atomic(route.atomic()).format(bytes, at, shorts);
     let at = format_byte(bytes, at, b'|');
-    let at = route.aggregator().format(bytes, at, shorts);
-    format_byte(bytes, at, b'\n')
+    route.aggregator().format(bytes, at, shorts)
 }
 
 /// Adds a byte and a segment that is no sequence.
@@ -145,14 +144,15 @@ fn put_path<T: Text>(text: &mut T, path: Option<PackedSegments<'_>>)
 /// Adds what a line has after the key: the fields of a route, each behind a bar, and the end of the line.
 pub(crate) fn put_route<T: Text, F: Unicast>(
     text: &mut T,
-    forms: AddressFormsOf<F>,
+    layout: LayoutOf<F>,
     route: &RouteRef<'_>,
 )
     ensures { Adds (T.state text.old) (T.state text.new)
-        ((124 ∷ field path_text route.now.path) ++ line_end forms route.now) }
+        ((124 ∷ field path_text route.now.path)
+        ++ (attribute_fields layout route.now ++ line_end layout.attributes route.now.kept)) }
 {
     put_path(text, route.path());
-    put_attributes(text, forms, route);
+    put_attributes(text, layout, route);
 }
 
 /// Adds the line of a route.
@@ -163,9 +163,9 @@ pub(crate) fn put_row<T: Text, F: WrittenAddress>(
     route: &RouteRef<'_>,
 )
     ensures { Adds (T.state text.old) (T.state text.new)
-        (route_line peer.now.forms (record { peer = peer.now.key; key = key.now; route = route.now })) }
+        (route_line peer.now.layout (record { peer = peer.now.key; key = key.now; route = route.now })) }
 {
     put_peer_and_key(text, peer, key);
     put_path(text, route.path());
-    put_attributes(text, peer.forms(), route);
+    put_attributes(text, peer.layout(), route);
 }

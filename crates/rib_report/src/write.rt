@@ -9,7 +9,7 @@ use crate::line::RowList;
 use crate::text::{TextWriter, finish};
 use bgp_update::Unicast;
 use mrt_frame::{ReplayError, Sink};
-use report_request::AddressFormsOf;
+use report_request::LayoutOf;
 
 /// How many rows are prefetched together before their lines are written. Routes lie far apart in memory. Reads
 /// that don't wait for one another overlap, so the lines are then written from the processor's cache.
@@ -43,11 +43,11 @@ fn prefetch_rows<F: Unicast, L: RowList<F>>(rows: L, from: usize, to: usize) -> 
 /// Writes a line for each row.
 pub(crate) fn write_lines<F: Unicast, W: Sink, L: RowList<F>>(
     out: &mut W,
-    forms: &AddressFormsOf<F>,
+    layout: &LayoutOf<F>,
     rows: L,
 ) -> Result<(), ReplayError>
     ensures { IsOutput (W.contents out.old) (W.failure_count out.old) (W.contents out.new) (W.failure_count out.new)
-        (flat_map (L.line_of forms.now) (L.rows rows)) result }
+        (flat_map (L.line_of layout.now) (L.rows rows)) result }
 {
     let mut text = TextWriter {
         buffer: TextBuffer::new(),
@@ -61,7 +61,7 @@ pub(crate) fn write_lines<F: Unicast, W: Sink, L: RowList<F>>(
             ahead = count.min(at.saturating_add(next));
             next = prefetch_rows::<F, L>(rows, at, ahead);
         }
-        rows.put(at, &mut text, forms);
+        rows.put(at, &mut text, layout);
     }
     finish(&mut text)
 }

@@ -9,14 +9,14 @@ use std::io::{self, ErrorKind, Write};
 /// A writer that writes a header before the first byte of a text. An empty text gets it when it is flushed. What this
 /// writer holds begins with the header from the start: it is what the other one holds, and what is left of the header.
 #[derive(Drop)]
-pub struct Headed<W> {
+pub struct Headed<'a, W> {
     out: W,
     /// What is still to be written of the header.
-    rest: &'static [u8],
+    rest: &'a [u8],
 }
 
-impl<W: Write> Headed<W> {
-    pub fn new(out: W, header: &'static str) -> Headed<W>
+impl<'a, W: Write> Headed<'a, W> {
+    pub fn new(out: W, header: &'a str) -> Headed<'a, W>
         ensures out { headed_out result ≡ out }
         ensures held { headed_contents W.contents result ≡ append_known (W.contents out) header.now }
     {
@@ -46,7 +46,7 @@ impl<W: Write> Headed<W> {
     }
 }
 
-impl<W: Write> Write for Headed<W> {
+impl<W: Write> Write for Headed<'_, W> {
     ghost contents = { headed_contents W.contents };
 
     fn write(&mut self, buf: &[u8]) -> io::Result<usize> {
@@ -60,9 +60,9 @@ impl<W: Write> Write for Headed<W> {
     }
 }
 
-impl<W: Write> Headed<W> {
+impl<'a, W: Write> Headed<'a, W> {
     /// What is known of the bytes held: what the other writer holds, and what is left of the header.
     pub fn holds_its_bytes(&self)
-        ensures { ⟦<Headed<W> as Write>⟧.contents self.now ≡ headed_contents W.contents self.now }
+        ensures { ⟦<Headed<'a, W> as Write>⟧.contents self.now ≡ headed_contents W.contents self.now }
     {}
 }

@@ -1,7 +1,7 @@
 //! Payloads of units, by the names of records.
 
 use bgp_prefix::Memory;
-use bgp_update::{FamilyMark, Width};
+use bgp_update::{AttributeSet, Rules, Width};
 use fixtures::message_of;
 use peer_units::{Payload, PayloadBytes};
 use std::alloc::Global;
@@ -12,7 +12,7 @@ pub fn message_in(alloc: Global, record: &str) -> Result<Payload, Memory> {
         bytes: PayloadBytes::from_vec(message_of(alloc, record)?),
         width: Width::Four,
         add_path: has_identifiers(record),
-        family: FamilyMark::new(),
+        rules: Rules::new(AttributeSet::none()),
     })
 }
 

@@ -44,12 +44,18 @@ impl<F: Unicast> Units<F> {
         ensures stops { IfErr result (WantsMemory self.new) }
         ensures stays { StaysHere self.old self.new }
     {
-        self.is_known();
         match content {
             BodyKind::IndexTable => self.take_index(alloc, at, body.as_slice()),
             BodyKind::Rib { add_path } => self.take_rib(alloc, at, add_path, body),
             BodyKind::Message { width, add_path } => {
-                let unit = message_unit(at, is_extended, width, add_path, body);
+                let unit = message_unit(
+                    self.selection.rules(),
+                    at,
+                    is_extended,
+                    width,
+                    add_path,
+                    body,
+                );
                 self.found(alloc, at, unit)
             }
             BodyKind::States { width } => {
@@ -188,7 +194,6 @@ impl<F: Unicast> Units<F> {
         ensures stops { IfErr result (WantsMemory self.new) }
         ensures stays { StaysHere self.old self.new }
     {
-        self.is_known();
         let Some(index) = &mut self.index else {
             return Ok(Some(refused(at, Fault::NoPeerIndex)));
         };

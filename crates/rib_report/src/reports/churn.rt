@@ -20,7 +20,7 @@ use bgp_update::Unicast;
 use mrt_frame::{ReplayError, Sink};
 use peer_tables::{Tables, Watched};
 use peer_units::PeerKey;
-use report_request::AddressFormsOf;
+use report_request::LayoutOf;
 use std::alloc::Global;
 
 /// What a peer's units did.
@@ -67,7 +67,7 @@ pub fn watched_churn<F: Unicast, M: PrefixMap<RouteId, Addr = F>>(
 impl<F: Unicast> Line<F> for ChurnRow {
     ghost line = { churn_line };
 
-    fn put<T: Text>(&self, text: &mut T, forms: &AddressFormsOf<F>) {
+    fn put<T: Text>(&self, text: &mut T, layout: &LayoutOf<F>) {
         let churn = self.churn;
         let times = (time_field(churn.first), time_field(churn.last));
         let refused = (churn.refused as u128, times);
@@ -84,7 +84,7 @@ impl<F: Unicast> Line<F> for ChurnRow {
         );
         let peer = ShownPeer {
             key: self.peer,
-            forms: *forms,
+            layout: *layout,
         };
         put(text, Joined((peer, counts), Byte(b'\n')));
     }
@@ -93,11 +93,11 @@ impl<F: Unicast> Line<F> for ChurnRow {
 /// Writes the rows of `churn`. If it returns `Write`, a leading part of the text has been written.
 pub fn write_churn<F: Unicast, W: Sink>(
     out: &mut W,
-    forms: AddressFormsOf<F>,
+    layout: LayoutOf<F>,
     rows: &[ChurnRow],
 ) -> Result<(), ReplayError>
     ensures { IsOutput (W.contents out.old) (W.failure_count out.old) (W.contents out.new) (W.failure_count out.new)
-        (flat_map (churn_line forms) rows.now) result }
+        (flat_map (churn_line layout) rows.now) result }
 {
-    write_lines(out, &forms, rows)
+    write_lines(out, &layout, rows)
 }

@@ -22,7 +22,7 @@ use ip_text::{AddressForm, DecimalTable, format_text};
 use mrt_frame::{Fault, ReplayError, Sink};
 use peer_tables::Tables;
 use peer_units::Damage;
-use report_request::{AddressForms, AddressFormsOf};
+use report_request::{Layout, LayoutOf};
 use std::alloc::Global;
 
 /// The refusals, and then each peer's faults.
@@ -74,7 +74,7 @@ impl Field for Fault {
 impl<F: Unicast> Line<F> for Damage {
     ghost line = { λ _. fault_line };
 
-    fn put<T: Text>(&self, text: &mut T, _forms: &AddressFormsOf<F>) {
+    fn put<T: Text>(&self, text: &mut T, _layout: &LayoutOf<F>) {
         let file = self.place.file as u128 + 1;
         let offset = self.place.offset as u128;
         let number = self.fault.number() as u32;
@@ -89,6 +89,6 @@ pub fn write_faults<W: Sink>(out: &mut W, rows: &[Damage]) -> Result<(), ReplayE
     ensures { IsOutput (W.contents out.old) (W.failure_count out.old) (W.contents out.new) (W.failure_count out.new)
         (flat_map fault_line rows.now) result }
 {
-    let forms: AddressForms = AddressForms::all(AddressForm::Full);
-    write_lines(out, &forms, rows)
+    let layout: Layout = Layout::all(AddressForm::Full);
+    write_lines(out, &layout, rows)
 }

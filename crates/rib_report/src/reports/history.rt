@@ -9,16 +9,18 @@ ghost use Rattle.rib_report.specs.Texts.{IsOutput};
 
 use crate::buffer::put;
 use crate::field::{Field, Microseconds, ShownKey, ShownPeer};
+use crate::kept_columns::put_line_end;
 use crate::line::{Line, RowList};
 use crate::route_line::put_route;
 use crate::text::Text;
 use crate::write::write_lines;
 use adj_rib::What;
 use bgp_prefix::Prefix;
+use bgp_update::KeptValues;
 use ip_text::{DecimalTable, WrittenAddress, format_text};
 use mrt_frame::{ReplayError, Sink};
 use peer_tables::{By, HistoryRow, HistoryRows};
-use report_request::AddressFormsOf;
+use report_request::LayoutOf;
 
 impl Field for What {
     ghost text_of = { what_text };
@@ -60,7 +62,7 @@ impl Field for By {
 }
 
 impl<F: WrittenAddress> Line<F> for HistoryRow<'_, Prefix<F>> {
-    ghost line = { λ forms row. history_line forms (row_state row) };
+    ghost line = { λ layout row. history_line layout (row_state row) };
 
     fn prefetch(&self) -> usize {
         match &self.route {
@@ -69,20 +71,23 @@ impl<F: WrittenAddress> Line<F> for HistoryRow<'_, Prefix<F>> {
         }
     }
 
-    fn put<T: Text>(&self, text: &mut T, forms: &AddressFormsOf<F>) {
+    fn put<T: Text>(&self, text: &mut T, layout: &LayoutOf<F>) {
         let key = ShownKey {
             key: self.key,
-            forms: *forms,
+            layout: *layout,
         };
         let event = (self.what, (self.by, key));
         let peer = ShownPeer {
             key: self.peer,
-            forms: *forms,
+            layout: *layout,
         };
         put(text, (Microseconds(self.time), (peer, event)));
         match &self.route {
-            Some(route) => put_route(text, *forms, route),
-            None => text.put_text(b"|-|-|-|-|-|-|-\n"),
+            Some(route) => put_route(text, *layout, route),
+            None => {
+                text.put_text(b"|-|-|-|-|-|-|-");
+                put_line_end(text, layout.attributes, &KeptValues::none());
+            }
         }
     }
 }
@@ -102,19 +107,19 @@ impl<F: WrittenAddress> RowList<F> for &HistoryRows<F> {
         self.at(at).prefetch()
     }
 
-    fn put<T: Text>(self, at: usize, text: &mut T, forms: &AddressFormsOf<F>) {
-        self.at(at).put(text, forms);
+    fn put<T: Text>(self, at: usize, text: &mut T, layout: &LayoutOf<F>) {
+        self.at(at).put(text, layout);
     }
 }
 
 /// Writes the rows of `history`. If it returns `Write`, a leading part of the text has been written.
 pub fn write_history<F: WrittenAddress, W: Sink>(
     out: &mut W,
-    forms: AddressFormsOf<F>,
+    layout: LayoutOf<F>,
     rows: &HistoryRows<F>,
 ) -> Result<(), ReplayError>
     ensures { IsOutput (W.contents out.old) (W.failure_count out.old) (W.contents out.new) (W.failure_count out.new)
-        (flat_map (history_line forms) rows.now.listed) result }
+        (flat_map (history_line layout) rows.now.listed) result }
 {
-    write_lines(out, &forms, rows)
+    write_lines(out, &layout, rows)
 }

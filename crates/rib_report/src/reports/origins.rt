@@ -22,7 +22,7 @@ use bgp_update::{RouteRef, Unicast};
 use ip_text::WrittenAddress;
 use mrt_frame::{ReplayError, Sink};
 use peer_tables::{Seated, Tables};
-use report_request::AddressFormsOf;
+use report_request::LayoutOf;
 use std::alloc::Global;
 use std::cmp::Ordering;
 use std::marker::{Send, Sync};
@@ -38,10 +38,10 @@ pub struct OriginRow<P = Prefix> {
 impl<F: WrittenAddress> Line<F> for OriginRow<Prefix<F>> {
     ghost line = { origin_line };
 
-    fn put<T: Text>(&self, text: &mut T, forms: &AddressFormsOf<F>) {
+    fn put<T: Text>(&self, text: &mut T, layout: &LayoutOf<F>) {
         let prefix = ShownPrefix {
             prefix: self.prefix,
-            forms: *forms,
+            layout: *layout,
         };
         put(text, prefix);
         put(text, Byte(b'|'));
@@ -53,13 +53,13 @@ impl<F: WrittenAddress> Line<F> for OriginRow<Prefix<F>> {
 /// Writes the rows of `origins`. If it returns `Write`, a leading part of the text has been written.
 pub fn write_origins<F: WrittenAddress, W: Sink>(
     out: &mut W,
-    forms: AddressFormsOf<F>,
+    layout: LayoutOf<F>,
     rows: &[OriginRow<Prefix<F>>],
 ) -> Result<(), ReplayError>
     ensures { IsOutput (W.contents out.old) (W.failure_count out.old) (W.contents out.new) (W.failure_count out.new)
-        (flat_map (origin_line forms) rows.now) result }
+        (flat_map (origin_line layout) rows.now) result }
 {
-    write_lines(out, &forms, rows)
+    write_lines(out, &layout, rows)
 }
 
 /// Pairs are merged by prefix and number. A pair of both lists is once.

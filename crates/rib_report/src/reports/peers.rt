@@ -21,7 +21,7 @@ use bgp_update::Unicast;
 use mrt_frame::{ReplayError, Sink};
 use peer_tables::{Seated, Tables};
 use peer_units::{PeerKey, Place};
-use report_request::AddressFormsOf;
+use report_request::LayoutOf;
 use std::alloc::Global;
 
 /// A peer as its units leave it.
@@ -97,7 +97,7 @@ fn place_entry_field(place: Option<Place>) -> Option<u32>
 impl<F: Unicast> Line<F> for PeerRow {
     ghost line = { peer_line };
 
-    fn put<T: Text>(&self, text: &mut T, forms: &AddressFormsOf<F>) {
+    fn put<T: Text>(&self, text: &mut T, layout: &LayoutOf<F>) {
         let place = (
             file_field(self.place),
             (offset_field(self.place), place_entry_field(self.place)),
@@ -106,7 +106,7 @@ impl<F: Unicast> Line<F> for PeerRow {
         let counts = (self.routes as u128, (self.units as u128, times));
         let peer = ShownPeer {
             key: self.peer,
-            forms: *forms,
+            layout: *layout,
         };
         let fields = (peer, (SessionUp(self.is_established), counts));
         put(text, Joined(fields, Byte(b'\n')));
@@ -116,11 +116,11 @@ impl<F: Unicast> Line<F> for PeerRow {
 /// Writes the rows of `peers`. If it returns `Write`, a leading part of the text has been written.
 pub fn write_peers<F: Unicast, W: Sink>(
     out: &mut W,
-    forms: AddressFormsOf<F>,
+    layout: LayoutOf<F>,
     rows: &[PeerRow],
 ) -> Result<(), ReplayError>
     ensures { IsOutput (W.contents out.old) (W.failure_count out.old) (W.contents out.new) (W.failure_count out.new)
-        (flat_map (peer_line forms) rows.now) result }
+        (flat_map (peer_line layout) rows.now) result }
 {
-    write_lines(out, &forms, rows)
+    write_lines(out, &layout, rows)
 }

@@ -23,7 +23,7 @@ use bgp_update::Unicast;
 use ip_text::WrittenAddress;
 use mrt_frame::{ReplayError, Sink};
 use peer_tables::{Seated, Tables};
-use report_request::AddressFormsOf;
+use report_request::LayoutOf;
 use std::alloc::Global;
 use std::cmp::Ordering;
 use std::marker::{Send, Sync};
@@ -40,10 +40,10 @@ pub struct SeenRow<P = Prefix> {
 impl<F: WrittenAddress> Line<F> for SeenRow<Prefix<F>> {
     ghost line = { seen_line };
 
-    fn put<T: Text>(&self, text: &mut T, forms: &AddressFormsOf<F>) {
+    fn put<T: Text>(&self, text: &mut T, layout: &LayoutOf<F>) {
         let prefix = ShownPrefix {
             prefix: self.prefix,
-            forms: *forms,
+            layout: *layout,
         };
         let fields = (prefix, (self.origin, self.peers as u128));
         put(text, Joined(fields, Byte(b'\n')));
@@ -53,13 +53,13 @@ impl<F: WrittenAddress> Line<F> for SeenRow<Prefix<F>> {
 /// Writes the rows of `seen`. If it returns `Write`, a leading part of the text has been written.
 pub fn write_seen<F: WrittenAddress, W: Sink>(
     out: &mut W,
-    forms: AddressFormsOf<F>,
+    layout: LayoutOf<F>,
     rows: &[SeenRow<Prefix<F>>],
 ) -> Result<(), ReplayError>
     ensures { IsOutput (W.contents out.old) (W.failure_count out.old) (W.contents out.new) (W.failure_count out.new)
-        (flat_map (seen_line forms) rows.now) result }
+        (flat_map (seen_line layout) rows.now) result }
 {
-    write_lines(out, &forms, rows)
+    write_lines(out, &layout, rows)
 }
 
 /// The prefix and the origin AS of a route, which may have none (RFC 6811, 2).

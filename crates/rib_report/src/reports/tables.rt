@@ -31,7 +31,7 @@ use mrt_frame::{ReplayError, Sink};
 use parallel::{LineBlocks, put_all_entries};
 use peer_tables::{Seated, Tables};
 use peer_units::PeerKey;
-use report_request::AddressFormsOf;
+use report_request::LayoutOf;
 use std::alloc::Global;
 use std::marker::Sync;
 use std::thread::Threads;
@@ -149,20 +149,20 @@ fn put_tables<
     rt: &R,
     line_blocks: &mut LineBlocks,
     text: &mut T,
-    forms: &AddressFormsOf<F>,
+    layout: &LayoutOf<F>,
     mut ids: Vec<(RouteKey<Prefix<F>>, &'a RouteId)>,
     mut all: Vec<(RouteKey<Prefix<F>>, RouteRef<'a>)>,
     seats: &'a [Seated<M>],
 )
     requires ids { most_entries (map seat_of seats.now) ≤ vec_capacity ids }
     requires all { most_entries (map seat_of seats.now) ≤ vec_capacity all }
-    ensures { Adds (T.state text.old) (T.state text.new) (flat_map (seat_lines forms.now) (map seat_of seats.now)) }
+    ensures { Adds (T.state text.old) (T.state text.new) (flat_map (seat_lines layout.now) (map seat_of seats.now)) }
 {
     for seat in seats {
         seat.session.table().list(&mut ids, &mut all);
         let peer = ShownPeer {
             key: seat.key,
-            forms: *forms,
+            layout: *layout,
         };
         put_all_entries(rt, line_blocks, text, &peer, all.as_slice());
     }
@@ -182,13 +182,13 @@ pub fn list_tables<
     alloc: Global,
     threads: usize,
     out: &mut W,
-    forms: AddressFormsOf<F>,
+    layout: LayoutOf<F>,
     tables: &Tables<M>,
 ) -> Result<(), ReplayError>
     ensures ok { OnOk result (Appends (W.contents out.old) (W.contents out.new)
-        (flat_map (route_line forms) (route_rows tables.now))) }
+        (flat_map (route_line layout) (route_rows tables.now))) }
     ensures front { OnErr result (WritesFront (W.contents out.old) (W.contents out.new)
-        (flat_map (route_line forms) (route_rows tables.now))) }
+        (flat_map (route_line layout) (route_rows tables.now))) }
     ensures errors { IfErr result (λ e. (e ≡ errors.Memory) ⊎ (e ≡ errors.Write)) }
     ensures untouched { result ≡ Err errors.Memory → out.new ≡ out.old }
     ensures sound { OnOk result (W.failure_count out.new ≡ W.failure_count out.old) }
@@ -203,7 +203,7 @@ pub fn list_tables<
         buffer: TextBuffer::new(),
         out,
     };
-    put_tables(rt, &mut line_blocks, &mut text, &forms, ids, all, seats);
+    put_tables(rt, &mut line_blocks, &mut text, &layout, ids, all, seats);
     finish(&mut text)
 }
 
@@ -220,18 +220,18 @@ fn prefetch_route(route: &RouteRef<'_>) -> usize {
 }
 
 impl<F: WrittenAddress> Line<F> for TableRow<'_, Prefix<F>> {
-    ghost line = { λ forms row. route_line forms (table_row row) };
+    ghost line = { λ layout row. route_line layout (table_row row) };
 
     fn prefetch(&self) -> usize {
         prefetch_route(&self.route)
     }
 
-    fn put<T: Text>(&self, text: &mut T, forms: &AddressFormsOf<F>)
-        ensures { Adds (T.state text.old) (T.state text.new) (route_line forms.now (table_row self.now)) }
+    fn put<T: Text>(&self, text: &mut T, layout: &LayoutOf<F>)
+        ensures { Adds (T.state text.old) (T.state text.new) (route_line layout.now (table_row self.now)) }
     {
         let peer = ShownPeer {
             key: self.peer,
-            forms: *forms,
+            layout: *layout,
         };
         let peer_text = text.buffer().peer_text(&peer);
         put_row(text, &peer_text, &self.key, &self.route);
@@ -242,11 +242,11 @@ impl<F: WrittenAddress> Line<F> for TableRow<'_, Prefix<F>> {
 /// written.
 pub fn write_rows<F: WrittenAddress, W: Sink>(
     out: &mut W,
-    forms: AddressFormsOf<F>,
+    layout: LayoutOf<F>,
     rows: &[TableRow<'_, Prefix<F>>],
 ) -> Result<(), ReplayError>
     ensures { IsOutput (W.contents out.old) (W.failure_count out.old) (W.contents out.new) (W.failure_count out.new)
-        (flat_map (λ row. route_line forms (table_row row)) rows.now) result }
+        (flat_map (λ row. route_line layout (table_row row)) rows.now) result }
 {
-    write_lines(out, &forms, rows)
+    write_lines(out, &layout, rows)
 }

@@ -23,7 +23,7 @@ use bgp_update::Unicast;
 use ip_text::WrittenAddress;
 use mrt_frame::{ReplayError, Sink};
 use peer_tables::{Seated, Tables};
-use report_request::AddressFormsOf;
+use report_request::LayoutOf;
 use std::alloc::Global;
 use std::cmp::Ordering;
 use std::marker::{Send, Sync};
@@ -39,10 +39,10 @@ pub struct VisibilityRow<P = Prefix> {
 impl<F: WrittenAddress> Line<F> for VisibilityRow<Prefix<F>> {
     ghost line = { visibility_line };
 
-    fn put<T: Text>(&self, text: &mut T, forms: &AddressFormsOf<F>) {
+    fn put<T: Text>(&self, text: &mut T, layout: &LayoutOf<F>) {
         let prefix = ShownPrefix {
             prefix: self.prefix,
-            forms: *forms,
+            layout: *layout,
         };
         put(text, Joined((prefix, self.peers as u128), Byte(b'\n')));
     }
@@ -51,13 +51,13 @@ impl<F: WrittenAddress> Line<F> for VisibilityRow<Prefix<F>> {
 /// Writes the rows of `visibility`. If it returns `Write`, a leading part of the text has been written.
 pub fn write_visibility<F: WrittenAddress, W: Sink>(
     out: &mut W,
-    forms: AddressFormsOf<F>,
+    layout: LayoutOf<F>,
     rows: &[VisibilityRow<Prefix<F>>],
 ) -> Result<(), ReplayError>
     ensures { IsOutput (W.contents out.old) (W.failure_count out.old) (W.contents out.new) (W.failure_count out.new)
-        (flat_map (visibility_line forms) rows.now) result }
+        (flat_map (visibility_line layout) rows.now) result }
 {
-    write_lines(out, &forms, rows)
+    write_lines(out, &layout, rows)
 }
 
 /// Prefixes with counts are merged by prefix. Counts are added, and saturate.

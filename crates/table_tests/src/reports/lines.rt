@@ -4,12 +4,12 @@ ghost use Rattle.bgp_update.specs.Decoded.{IsRouteAt};
 
 use crate::churns::churn_of;
 use bgp_prefix::{Ipv6, Prefix, RouteKey, Sequence};
-use bgp_update::{RouteRef, RouteSpan, Width, decode_entry};
+use bgp_update::{AttributeSet, KeptAttribute, RouteRef, RouteSpan, Width, decode_asked_entry};
 use fixtures::bytes_of;
 use mrt_frame::{Counted, Fault};
 use peer_units::{Damage, PeerAddr, PeerKey, Place};
 use rib_report::{
-    AddressForm, AddressForms, ChurnRow, OriginRow, SeenRow, TableRow, VisibilityRow, write_churn,
+    AddressForm, ChurnRow, Layout, OriginRow, SeenRow, TableRow, VisibilityRow, write_churn,
     write_faults, write_origins, write_rows, write_seen, write_visibility,
 };
 use std::alloc::Global;
@@ -17,8 +17,8 @@ use std::process::Abort;
 use std::test::Fail;
 
 /// Addresses in full.
-fn full() -> AddressForms {
-    AddressForms::all(AddressForm::Full)
+fn full() -> Layout {
+    Layout::all(AddressForm::Full)
 }
 
 /// 65000 192.0.2.1.
@@ -68,7 +68,8 @@ fn packed(rt: &impl Abort, alloc: Global, attributes: &str, hops: &[u128]) -> Pa
             .expect(rt, attributes);
     }
     let mut bytes = Vec::new(alloc);
-    let span = decode_entry::<Ipv6>(alloc, &mut bytes, attrs.as_slice(), Width::Four);
+    let all = AttributeSet::all();
+    let span = decode_asked_entry::<Ipv6>(alloc, &mut bytes, attrs.as_slice(), all, Width::Four);
     let span = span.expect(rt, attributes);
     (bytes, span)
 }
@@ -180,7 +181,7 @@ fn each_address_has_its_short_text(rt: HostRuntime) -> Result<(), Fail> {
             route: route_of(&route),
         }];
         let mut out = Counted::new(Vec::<u8>::new(alloc));
-        assert!(rt; write_rows(&mut out, AddressForms::all(AddressForm::Short), &rows).is_ok());
+        assert!(rt; write_rows(&mut out, Layout::all(AddressForm::Short), &rows).is_ok());
         let line = format!(in alloc; "65000 {text}|0.0.0.0/0|-|{text}|-|-|-|-|-\n")?;
         assert!(rt; out.device().as_slice() == line.as_bytes(), "{text}");
     }
@@ -200,15 +201,137 @@ fn peers_and_routes_have_their_own_forms(rt: HostRuntime) {
         key: key(0, 0, 0),
         route: route_of(&route),
     }];
-    let forms = AddressForms {
-        routes: AddressForm::Short,
+    let layout = Layout {
+        route_addresses: AddressForm::Short,
         ..full()
     };
     let line =
         "65000 0000:0000:0000:0000:0000:0000:0000:0001|0.0.0.0/0|-|2001:db8::1 fe80::2|-|-|-|-|-\n";
     let mut out = Counted::new(Vec::<u8>::new(alloc));
-    assert!(rt; write_rows(&mut out, forms, &rows).is_ok());
+    assert!(rt; write_rows(&mut out, layout, &rows).is_ok());
     assert!(rt; out.device().as_slice() == line.as_bytes());
+}
+
+/// The line of a route of an IPv6 entry with these attributes, in a layout with these columns.
+fn expect_line(
+    rt: &impl Abort,
+    alloc: Global,
+    attributes: &str,
+    asked: AttributeSet,
+    columns: &str,
+) {
+    let route = packed(rt, alloc, attributes, &[]);
+    let rows = [TableRow {
+        peer: PEER,
+        key: key(0, 0, 0),
+        route: route_of(&route),
+    }];
+    let layout = Layout {
+        attributes: asked,
+        ..full()
+    };
+    let mut out = Counted::new(Vec::<u8>::new(alloc));
+    assert!(rt; write_rows(&mut out, layout, &rows).is_ok());
+    let line = format!(in alloc; "65000 192.0.2.1|0.0.0.0/0|-|-|-|-|-|-|-{columns}\n");
+    let line = line.expect(rt, "memory");
+    let written = out.device().as_slice();
+    assert!(rt; written == line.as_str().as_bytes(), "{attributes}");
+}
+
+/// Two halves in decimal, three numbers, dotted addresses, an AS number; a route target or a route
+/// origin of each of three types, and any other extended community in hexadecimal.
+#[test]
+fn each_further_attribute_has_its_text(rt: HostRuntime) {
+    let alloc = rt.alloc();
+    for (attribute, value, text) in [
+        (KeptAttribute::Communities, "C00804 FDE8029A", "65000:666"),
+        (
+            KeptAttribute::Communities,
+            "C00808 FFFFFF01 00000000",
+            "65535:65281 0:0",
+        ),
+        (
+            KeptAttribute::ExtendedCommunities,
+            "C01008 0002FDE800000001",
+            "rt:65000:1",
+        ),
+        (
+            KeptAttribute::ExtendedCommunities,
+            "C01008 0003FFFFFFFFFFFF",
+            "ro:65535:4294967295",
+        ),
+        (
+            KeptAttribute::ExtendedCommunities,
+            "C01008 0102C00002010007",
+            "rt:192.0.2.1:7",
+        ),
+        (
+            KeptAttribute::ExtendedCommunities,
+            "C01008 0203000111700009",
+            "ro:70000:9",
+        ),
+        (
+            KeptAttribute::ExtendedCommunities,
+            "C01008 4002FDE800000001",
+            "0x4002fde800000001",
+        ),
+        (
+            KeptAttribute::ExtendedCommunities,
+            "C01008 000BFDE800000001",
+            "0x000bfde800000001",
+        ),
+        (
+            KeptAttribute::ExtendedCommunities,
+            "C01008 0302FDE800000001",
+            "0x0302fde800000001",
+        ),
+        (
+            KeptAttribute::ExtendedCommunities,
+            "C01010 0002FDE800000001 800600004D9B7FC0",
+            "rt:65000:1 0x800600004d9b7fc0",
+        ),
+        (
+            KeptAttribute::LargeCommunities,
+            "C0200C 0000FDE8 00000001 FFFFFFFF",
+            "65000:1:4294967295",
+        ),
+        (
+            KeptAttribute::LargeCommunities,
+            "C02018 00000000 00000000 00000000 00000001 00000002 00000003",
+            "0:0:0 1:2:3",
+        ),
+        (KeptAttribute::OriginatorId, "800904 C0000201", "192.0.2.1"),
+        (
+            KeptAttribute::ClusterList,
+            "800A08 C0000201 FFFFFFFF",
+            "192.0.2.1 255.255.255.255",
+        ),
+        (
+            KeptAttribute::OnlyToCustomer,
+            "C02304 FFFFFFFF",
+            "4294967295",
+        ),
+    ] {
+        let columns = format!(in alloc; "|{text}").expect(&rt, "memory");
+        let asked = AttributeSet::none().with(attribute);
+        expect_line(&rt, alloc, value, asked, columns.as_str());
+        expect_line(&rt, alloc, value, AttributeSet::none(), "");
+        expect_line(&rt, alloc, "", asked, "|-");
+    }
+}
+
+#[test]
+fn further_attributes_stand_in_the_order_of_columns(rt: HostRuntime) {
+    let alloc = rt.alloc();
+    let all = "C02304 0000FDE8 800A04 0A000001 800904 0A000002 C0200C 00000001 00000002 00000003
+        C01008 0002FDE800000001 C00804 FDE80001";
+    let texts = "|65000:1|rt:65000:1|1:2:3|10.0.0.2|10.0.0.1|65000";
+    expect_line(&rt, alloc, all, AttributeSet::all(), texts);
+    let two = AttributeSet::none()
+        .with(KeptAttribute::OnlyToCustomer)
+        .with(KeptAttribute::LargeCommunities);
+    expect_line(&rt, alloc, all, two, "|1:2:3|65000");
+    expect_line(&rt, alloc, "", AttributeSet::all(), "|-|-|-|-|-|-");
 }
 
 fn numbers(rt: &impl Abort, alloc: Global, numbers: &[u32]) -> Sequence<u32> {

@@ -7,7 +7,7 @@ ghost use Rattle.peer_tables.specs.Gathers.{gathered_seats};
 use crate::payloads::message_in;
 use adj_rib::{RouteId, Session};
 use bgp_prefix::{PrefixMap, RouteKey, Sequence};
-use bgp_update::FamilyMark;
+use bgp_update::{AttributeSet, Rules};
 use peer_units::{Damage, Payload, PayloadBytes, PeerAddr, PeerKey, Place, Unit};
 use rib_report::{Gathered, Seated, Tables, collect};
 use std::alloc::Global;
@@ -37,7 +37,7 @@ pub fn entry_of(number: u32, key: RouteKey, attributes: Vec<u8>) -> Unit {
         payload: Payload::Entry {
             key,
             attrs: PayloadBytes::from_vec(attributes),
-            family: FamilyMark::new(),
+            rules: Rules::new(AttributeSet::none()),
         },
     }
 }

@@ -7,7 +7,7 @@ use mrt_frame::{Counted, Fault, ReplayError, Sink};
 use peer_units::{Damage, Place};
 use prefix_maps::{Flat, Radix};
 use rib_report::{
-    AddressForm, AddressForms, Tables, churn, faults, list_tables, matches, origins, peers, seen,
+    AddressForm, Layout, Tables, churn, faults, list_tables, matches, origins, peers, seen,
     table_rows, visibility, write_churn, write_faults, write_origins, write_peers, write_rows,
     write_seen, write_visibility,
 };
@@ -16,8 +16,8 @@ use std::process::Abort;
 use std::thread::Threads;
 
 /// Addresses in full.
-pub fn full() -> AddressForms {
-    AddressForms::all(AddressForm::Full)
+pub fn full() -> Layout {
+    Layout::all(AddressForm::Full)
 }
 
 #[derive(Clone, Copy)]

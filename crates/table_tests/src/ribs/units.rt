@@ -3,7 +3,7 @@
 use crate::payloads::message_in;
 use adj_rib::{RouteId, Session};
 use bgp_prefix::{Memory, Prefix, PrefixMap, RouteKey};
-use bgp_update::FamilyMark;
+use bgp_update::{AttributeSet, Rules};
 use fixtures::bytes_of;
 use peer_units::{Payload, PayloadBytes, PeerAddr, PeerKey, Place, StateRule, Unit};
 use std::alloc::Global;
@@ -51,7 +51,7 @@ pub fn entry_unit(id: u32, attrs: PayloadBytes) -> Unit {
         Payload::Entry {
             key: ten(id),
             attrs,
-            family: FamilyMark::new(),
+            rules: Rules::new(AttributeSet::none()),
         },
     )
 }

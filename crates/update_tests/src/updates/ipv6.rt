@@ -77,9 +77,11 @@ fn expect_update(
     let update: Update<Prefix<Ipv6>> = read_update(
         alloc,
         body.as_slice(),
+        AttributeSet::none(),
         Width::Four,
         add_path,
-    ).expect(rt, "an update");
+    )
+    .expect(rt, "an update");
     expect_keys_of_ipv6(rt, update.reached.as_slice(), reached, text);
     expect_keys_of_ipv6(rt, update.withdrawn.as_slice(), withdrawn, text);
     assert!(rt;
@@ -244,8 +246,9 @@ fn damaged_updates_of_ipv6_are_refused(rt: HostRuntime) {
 fn hop_of_entry(rt: &impl Abort, alloc: Global, text: &str) -> Result<Option<NextHop>, Fault> {
     let attrs = bytes_of(alloc, text).expect(rt, "memory");
     let mut bytes = Vec::new(alloc);
+    let none = AttributeSet::none();
     let span = decode_entry::<Ipv6>(alloc, &mut bytes, attrs.as_slice(), Width::Four);
-    match read_attrs::<Ipv6>(alloc, attrs.as_slice(), Width::Four) {
+    match read_attrs::<Ipv6>(alloc, attrs.as_slice(), none, Width::Four) {
         Ok(route) => {
             let decoded = span.expect(rt, "a route").route(bytes.as_slice()).route;
             assert!(rt; decoded.next_hop() == route.next_hop, "at {text}");

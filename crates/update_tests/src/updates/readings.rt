@@ -18,7 +18,14 @@ pub fn reading_of(
     add_path: bool,
 ) -> Update {
     let body = update_of(alloc, text).expect(rt, "memory");
-    read_update(alloc, body.as_slice(), width, add_path).expect(rt, "an update")
+    read_update(
+        alloc,
+        body.as_slice(),
+        AttributeSet::none(),
+        width,
+        add_path,
+    )
+    .expect(rt, "an update")
 }
 
 /// Where an UPDATE without fault stands among these keys and bytes, to which it is decoded.
@@ -45,7 +52,7 @@ pub fn fault_in<F: Unicast>(
     width: Width,
     add_path: bool,
 ) -> Option<Fault> {
-    match read_update::<F>(alloc, body, width, add_path).err() {
+    match read_update::<F>(alloc, body, AttributeSet::none(), width, add_path).err() {
         None => None,
         Some(AttrError::Bad(fault)) => Some(fault),
         Some(AttrError::Memory) => panic!(rt; "memory"),

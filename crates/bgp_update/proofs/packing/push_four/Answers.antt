@@ -10,7 +10,7 @@ returns-in_ok-extend_from_slice-in-Some c =
     let path : Some c.in-Some.path.now ≡ kept_value c.args.first.now AsPath = search rules in
     let there : c.is_some.result ≡ true = search rules in
     let front = c.in_ok-push_front.ensures in
-    four_route c.args.first.now c.args.hop.now (Some c.in-Some.path.now) c.is_some.result c.args.out.now.items c.push_front.new.out.items c.extend_from_slice.new.self.items
+    four_route c.args.first.now c.args.kept.now c.args.hop.now (Some c.in-Some.path.now) c.is_some.result c.args.out.now.items c.push_front.new.out.items c.extend_from_slice.new.self.items
     c.requires front.widths path there front.bytes c.in_ok-extend_from_slice-in-Some.ensures.items
 
 pub returns-in-None : goal.returns-in-None
@@ -18,5 +18,5 @@ returns-in-None c =
     let path : None ≡ kept_value c.args.first.now AsPath = search rules in
     let none : c.is_some.result ≡ false = search rules in
     let front = c.in_ok-push_front.ensures in
-    four_route c.args.first.now c.args.hop.now None c.is_some.result c.args.out.now.items c.push_front.new.out.items c.push_front.new.out.items
+    four_route c.args.first.now c.args.kept.now c.args.hop.now None c.is_some.result c.args.out.now.items c.push_front.new.out.items c.push_front.new.out.items
     c.requires front.widths path none front.bytes (sym (append-nil c.push_front.new.out.items))

@@ -7,7 +7,7 @@ pub returns-then-byte-lt16 : goal.returns-then-byte-lt16
 returns-then-byte-lt16 c =
     let same : c.args.byte % 16 ≡ c.args.byte = omega arith in
     record {
-      shortest = ap (λ d. d ∷ []) c.glyph-low.ensures ∙ ap (λ d. digit_glyph false d ∷ []) same ∙ sym (hex_one_digit false c.args.byte (omega arith));
+      shortest = ap (λ d. d ∷ []) c.hexadecimal_digit-low.ensures ∙ ap (λ d. digit_glyph false d ∷ []) same ∙ sym (hex_one_digit false c.args.byte (omega arith));
       padded = cc;
       few = omega arith;
     }

@@ -6,5 +6,5 @@ overflow_sub-start g c = message-le c.args.is_extended c.args.width c.as_slice-b
 
 pub returns-clause-reads : goal.returns-clause-reads
 returns-clause-reads g c =
-    rw (c.place.ensures, c.time.ensures, c.new.ensures, c.as_slice-bytes.ensures, c.new-2.ensures)
-    (message_is g.F.Unicast.family c.args.at c.args.is_extended c.args.width c.args.add_path c.args.body c.in_ok-microseconds.microseconds c.in_ok-microseconds.after.now c.in_ok-peer.peer c.in_ok-peer.rest.now (rw c.as_slice-bytes.ensures at c.in_ok-microseconds.ensures) c.in_ok-peer.ensures)
+    rw (c.place.ensures, c.time.ensures, c.new.ensures, c.as_slice-bytes.ensures)
+    (message_is c.args.rules c.args.at c.args.is_extended c.args.width c.args.add_path c.args.body c.in_ok-microseconds.microseconds c.in_ok-microseconds.after.now c.in_ok-peer.peer c.in_ok-peer.rest.now (rw c.as_slice-bytes.ensures at c.in_ok-microseconds.ensures) c.in_ok-peer.ensures)

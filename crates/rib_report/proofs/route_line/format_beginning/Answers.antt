@@ -1,5 +1,5 @@
 use Rattle.std.proofs.Common.{[], ◌∷◌, ◌++◌, ap}
-use Rattle.report_request.specs.Plain.{AddressForms}
+use Rattle.report_request.specs.Plain.{Layout}
 use Rattle.rib_report.specs.Lines.{peer_text, key_text}
 use Rattle.ip_text.proofs.FormatLaws.{Formats_trans, Formats_as}
 use Rattle.rib_report.proofs.route_line.format_beginning.Goals as goal
@@ -7,5 +7,5 @@ use Rattle.rib_report.proofs.route_line.format_beginning.Goals as goal
 pub returns : goal.returns
 returns g c =
     let peer = c.args.peer.now in
-    Formats_as (ap (λ (forms : AddressForms). (peer_text peer.forms peer.key ++ 124 ∷ []) ++ key_text forms c.args.key.now) c.forms.ensures)
+    Formats_as (ap (λ (layout : Layout). (peer_text peer.layout peer.key ++ 124 ∷ []) ++ key_text layout c.args.key.now) c.layout.ensures)
     (Formats_trans c.format-at.ensures c.format.ensures)

@@ -5,7 +5,7 @@ use Rattle.rib_report.proofs.field.ShownPrefixPrefixFamilyMarkField.format.Goals
 
 pub returns : goal.returns
 returns g c =
-    let forms = c.args.self.forms in
-    let known : g.F.Unicast.family ≡ forms.family = sym c.is_known.ensures in
-    Formats_as (λ i. address_text (known i) forms.routes (c.addr-addr.ensures.addr i) ++ 47 ∷ decimal (c.len.ensures.len i))
+    let layout = c.args.self.layout in
+    let known : g.F.Unicast.family ≡ layout.family = sym c.is_known.ensures in
+    Formats_as (λ i. address_text (known i) layout.route_addresses (c.addr-addr.ensures.addr i) ++ 47 ∷ decimal (c.len.ensures.len i))
     (Formats_trans c.format-at.ensures (Formats_trans c.format_byte-at.ensures c.format_short.ensures))

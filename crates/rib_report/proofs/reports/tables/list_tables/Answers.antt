@@ -18,7 +18,7 @@ fails_at {P = P} h e = subst (λ r. OnErr r P) e h
 
 pub returns : goal.returns
 returns g c =
-    let lines = ap (flat_map (seat_lines c.args.forms)) c.seats-seats.ensures ∙ lines_of_seats c.args.forms c.args.tables.now.seats in
+    let lines = ap (flat_map (seat_lines c.args.layout)) c.seats-seats.ensures ∙ lines_of_seats c.args.layout c.args.tables.now.seats in
     let output = output_at g.W.Sink.contents g.W.Failures.failure_count (search rules) (c.finish.ensures.output _ _ _ (text_begun c.new-2.ensures (Adds_as lines c.put_tables.ensures))) in
     record {
       ok = output.ok;

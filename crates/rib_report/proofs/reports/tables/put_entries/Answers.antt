@@ -5,14 +5,14 @@ use Rattle.rib_report.proofs.JoinLaws.{Adds_range, Adds_items, Adds_failed}
 use Rattle.rib_report.proofs.reports.tables.put_entries.Goals as goal
 
 pub returns-then-has_failed : goal.returns-then-has_failed
-returns-then-has_failed g c = Adds_failed (λ e. route_line c.args.peer.now.forms (entry_row c.args.peer.now.key e)) c.args.entries.now c.loop-done.done c.loop-done.invariant.written cc
+returns-then-has_failed g c = Adds_failed (λ e. route_line c.args.peer.now.layout (entry_row c.args.peer.now.key e)) c.args.entries.now c.loop-done.done c.loop-done.invariant.written cc
 
 pub loop-done-preserved : goal.loop-done-preserved
 loop-done-preserved g c = record {
   within = omega arith;
   goes_on = c.prefetch_entries-near.ensures;
-  written = Adds_range (λ e. route_line c.args.peer.now.forms (entry_row c.args.peer.now.key e)) c.args.entries.now c.loop-done.done c.min-end.result (omega arith) c.loop-done.invariant.written (rw c.peer_text-peer_text.ensures at c.put_block.ensures);
+  written = Adds_range (λ e. route_line c.args.peer.now.layout (entry_row c.args.peer.now.key e)) c.args.entries.now c.loop-done.done c.min-end.result (omega arith) c.loop-done.invariant.written (rw c.peer_text-peer_text.ensures at c.put_block.ensures);
 }
 
 pub returns : goal.returns
-returns g c = Adds_items (λ e. route_line c.args.peer.now.forms (entry_row c.args.peer.now.key e)) c.args.entries.now c.loop-done.done c.loop-done-test.false c.loop-done.invariant.written
+returns g c = Adds_items (λ e. route_line c.args.peer.now.layout (entry_row c.args.peer.now.key e)) c.args.entries.now c.loop-done.done c.loop-done-test.false c.loop-done.invariant.written

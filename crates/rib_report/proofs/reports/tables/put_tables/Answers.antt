@@ -23,16 +23,16 @@ list-requires-clause-all g c =
 pub loop-seat-preserved : goal.loop-seat-preserved
 loop-seat-preserved g c =
     let seat = seat_of c.seat-item.result in
-    let forms = c.args.forms.now in
+    let layout = c.args.layout.now in
     let whole = c.list.ensures.entries ∙ c.table.ensures in
-    let own = ap (reached_lines (record { key = seat.key; forms = forms })) c.as_slice.ensures.value ∙ lines_of_seat forms seat c.list.new.all.items whole in
+    let own = ap (reached_lines (record { key = seat.key; layout = layout })) c.as_slice.ensures.value ∙ lines_of_seat layout seat c.list.new.all.items whole in
     record {
       ids = omega (arith, c.loop-seat.invariant.ids, c.list.ensures.ids);
       all = omega (arith, c.loop-seat.invariant.all, c.list.ensures.all);
-      written = Adds_item (λ s. seat_lines forms (seat_of s)) c.args.seats.now c.loop-seat.seat-index c.seat-item.result c.loop-seat-test.true c.seat-item.is c.loop-seat.invariant.written (Adds_as own c.put_all_entries.ensures);
+      written = Adds_item (λ s. seat_lines layout (seat_of s)) c.args.seats.now c.loop-seat.seat-index c.seat-item.result c.loop-seat-test.true c.seat-item.is c.loop-seat.invariant.written (Adds_as own c.put_all_entries.ensures);
     }
 
 pub returns : goal.returns
 returns g c =
     let seats = c.args.seats.now in
-    Adds_as (flat_map_twice seat_of (seat_lines c.args.forms.now) seats) (Adds_items (λ s. seat_lines c.args.forms.now (seat_of s)) seats c.loop-seat.seat-index c.loop-seat-test.false c.loop-seat.invariant.written)
+    Adds_as (flat_map_twice seat_of (seat_lines c.args.layout.now) seats) (Adds_items (λ s. seat_lines c.args.layout.now (seat_of s)) seats c.loop-seat.seat-index c.loop-seat-test.false c.loop-seat.invariant.written)

@@ -11,5 +11,5 @@ abbrev pub invariant-loop-seat : goal.invariant-loop-seat
 invariant-loop-seat g l = record {
   ids : most_entries (map seat_of l.seats) ≤ vec_capacity l.ids;
   all : most_entries (map seat_of l.seats) ≤ vec_capacity l.all;
-  written : Adds (g.T.Text.state l.initial.text) (g.T.Text.state l.text) (flat_map (λ s. seat_lines l.forms (seat_of s)) (take l.seat-index l.seats));
+  written : Adds (g.T.Text.state l.initial.text) (g.T.Text.state l.text) (flat_map (λ s. seat_lines l.layout (seat_of s)) (take l.seat-index l.seats));
 }

@@ -9,4 +9,4 @@ pub returns : goal.returns
 returns g c =
     let rows = c.args.self.now.listed in
     let row : RowState = row_state c.at.result in
-    Adds_one (history_line c.args.forms.now) rows c.args.at row c.requires (sym (get_or_from_slice_get rows c.args.at row row c.at.ensures)) c.put.ensures
+    Adds_one (history_line c.args.layout.now) rows c.args.at row c.requires (sym (get_or_from_slice_get rows c.args.at row row c.at.ensures)) c.put.ensures

@@ -15,7 +15,7 @@ returns-then-has_failed g c =
     let entries = c.args.entries.now in
     let start = c.loop-end.start in
     let so_far = Adds_next c.args.peer.now entries 0 0 start (omega arith) (omega arith) c.fill_and_put.ensures.put c.loop-end.invariant.written in
-    Adds_failed (λ e. route_line c.args.peer.now.forms (entry_row c.args.peer.now.key e)) entries start
+    Adds_failed (λ e. route_line c.args.peer.now.layout (entry_row c.args.peer.now.key e)) entries start
     (Adds_as (ap (reached_lines c.args.peer.now) (between_from_start entries start)) so_far) cc
 
 pub loop-end-init : goal.loop-end-init
