@@ -1,4 +1,5 @@
-//! The attributes that a route keeps, as bytes: the type code of each, the length of its value in two bytes, and the value.
+//! The attributes that a route keeps, as bytes: the type code of each, the length of its value in two bytes, and the
+//! value.
 
 ghost use Rattle.std.specs.Prelude.{◌≡◌, ◌↔◌, ◌++◌, ◌∷◌, ◌<◌, ◌^◌, [], IfOk, IfSome, IsTrue, OnOk, true, length, option_map};
 ghost use Rattle.std.specs.List.{flat_map, AllByRecursion};

@@ -9,8 +9,8 @@ use crate::unicast::Unicast;
 use std::alloc::AllocError;
 use std::marker::{Model, PhantomData};
 
-/// By which rules messages and entries are read: of which family the routes are, which its type tells, and which further
-/// attributes they keep.
+/// By which rules messages and entries are read: of which family the routes are, which its type tells, and which
+/// further attributes they keep.
 #[derive(Debug, Drop)]
 pub struct Rules<F: Unicast = u32> {
     kept: AttributeSet,

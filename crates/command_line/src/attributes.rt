@@ -37,8 +37,8 @@ fn attribute_of(name: &str) -> Option<KeptAttribute> {
     None
 }
 
-/// Adds the attributes of these names, joined by commas, to others; `all` names all of them. Returns the first name that
-/// is none of them, if there is one.
+/// Adds the attributes of these names, joined by commas, to others; `all` names all of them. Returns the first name
+/// that is none of them, if there is one.
 pub(crate) fn add_attributes<'a>(
     others: AttributeSet,
     names: &'a str,

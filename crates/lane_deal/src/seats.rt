@@ -199,8 +199,8 @@ impl<F: Unicast, M: PrefixMap<RouteId, Addr = F> + Drop> Seats<M> {
             .take_event(alloc, head.place, head.time, event)
     }
 
-    /// Passes the unit at an index to the session at that position, apart from the code of entries, whose fields would be
-    /// kept beside those of all other kinds.
+    /// Passes the unit at an index to the session at that position, apart from the code of entries, whose fields would
+    /// be kept beside those of all other kinds.
     #[inline(never)]
     fn take_apart(
         &mut self,

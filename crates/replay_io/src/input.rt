@@ -104,8 +104,8 @@ impl<D: Read + Drop> Contents<'_, D> {
         }
     }
 
-    /// Gives bytes of a plain file's block, or those that are unpacked of a gzip file, without reading: none where there
-    /// are none, or where other threads may unpack it.
+    /// Gives bytes of a plain file's block, or those that are unpacked of a gzip file, without reading: none where
+    /// there are none, or where other threads may unpack it.
     #[inline(always)]
     fn take_held(&mut self, buf: &mut [u8]) -> usize
         ensures bound { result ≤ length buf.new }

@@ -49,8 +49,8 @@ pub(crate) fn format_beginning<F: WrittenAddress>(
 /// The most bytes of the fields after the path, of the end of a line, and one more.
 pub(crate) const ATTRIBUTES_BYTES: usize = 160;
 
-/// Writes the fields that each route has after the path, a bar before each. Each field is written as soon as it is read,
-/// so that none of them is stored in between.
+/// Writes the fields that each route has after the path, a bar before each. Each field is written as soon as it is
+/// read, so that none of them is stored in between.
 #[inline(always)]
 pub(crate) fn format_attributes<F: Unicast>(
     bytes: &mut [u8],
