@@ -15,7 +15,7 @@ use Rattle.bgp_update.specs.declared.attribute_type.AttributeType.TheVariants.{O
 use Rattle.bgp_update.specs.declared.kept_attribute.KeptAttribute.{KeptAttribute}
 use Rattle.bgp_update.specs.declared.kept_attribute.AttributeSet.{AttributeSet}
 use Rattle.bgp_update.specs.KeptAttributes.{KeptValue, all_kept, no_attributes, asked_item, has, kept_item}
-use Rattle.bgp_update.specs.KeptBytes.{IsShort, FitsKept, kept_item_bytes, kept_bytes}
+use Rattle.bgp_update.specs.KeptBytes.{AreKeptBytes, IsShort, FitsKept, kept_item_bytes, kept_bytes, spelled_values}
 use Rattle.bgp_update.specs.declared.next_hop.NextHop.{NextHop}
 use Rattle.bgp_update.specs.Hops.{by_hop}
 use Rattle.bgp_update.specs.declared.width.Width.{Width}
@@ -31,6 +31,7 @@ use Rattle.bgp_update.specs.Attributes.{WrittenAttribute, FitsAttribute, has_typ
 use Rattle.bgp_update.specs.Multiprotocol.{entry_hop}
 use Rattle.bgp_update.specs.Values.{Values, AreShort, CanPackKept, all_values, asked_value, kept_entry_route, kept_route, kept_value, plain_rules, values_asked, keys_fault, unless_fault, KeepsFirst}
 use Rattle.bgp_update.specs.Packing.{WritesPath, WritesRoute, kept_part, IsSpelled, spelled_path, IsWritable, HaveWidths, front_bytes, path_part}
+use Rattle.bgp_update.proofs.KeptLaws.{kept-bytes, spelled_values-bytes}
 use Rattle.bgp_update.proofs.SegmentLaws.{path_in-bytes}
 use Rattle.bgp_update.proofs.AttributeLaws.{attributes_in-is, values_fine}
 use Rattle.bgp_update.proofs.FromFirstValues.{route_from_same}
@@ -121,11 +122,19 @@ few_items kept (x ∷ xs) =
     one true None = omega arith
     one true (Some value) = omega arith
 
-pub kept_fit : (kept : AskedValues) → AreShort kept → AllByRecursion FitsKept (values_asked kept)
+kept_fit : (kept : AskedValues) → AreShort kept → AllByRecursion FitsKept (values_asked kept)
 kept_fit kept short = all_fit kept all_kept short
 
-pub kept_few : (kept : AskedValues) → AreShort kept → length (kept_bytes (values_asked kept)) < 256 ^ 4
+kept_few : (kept : AskedValues) → AreShort kept → length (kept_bytes (values_asked kept)) < 256 ^ 4
 kept_few kept short = omega (arith, few_bytes (values_asked kept) (kept_fit kept short), few_items kept all_kept)
+
+-- bytes behind none that were written of values spell them
+pub written_kept : (kept : AskedValues) {none bytes : List ℕ} → AreShort kept → none ≡ [] → bytes ≡ none ++ kept_bytes (values_asked kept) → AreKeptBytes bytes × (spelled_values bytes ≡ values_asked kept)
+written_kept kept {none} {bytes} short nothing written =
+    let ks = values_asked kept in
+    let fits = kept_fit kept short in
+    let is : bytes ≡ kept_bytes ks = written ∙ ap (λ (xs : List ℕ). xs ++ kept_bytes ks) nothing in
+    (subst AreKeptBytes (sym is) (kept-bytes ks fits (kept_few kept short)), ap spelled_values is ∙ spelled_values-bytes ks fits)
 
 -- the whole route
 pub whole_route : (width : Width) (first : FirstValues) (kept : List KeptValue) (hop : Option NextHop) (old mid new : List ℕ) → CanPackKept width first → AllByRecursion FitsKept kept → length (kept_bytes kept) < 256 ^ 4

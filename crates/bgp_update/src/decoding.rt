@@ -13,7 +13,7 @@ use crate::attr_error::AttrError;
 use crate::attribute_context::AttributeContext;
 use crate::decoded::{RouteSpan, Span, UpdateSpans};
 use crate::kept_attribute::AttributeSet;
-use crate::kept_values::{KeptValues, kept_block};
+use crate::kept_values::{KeptValues, kept_in};
 use crate::packing::{pack_entry, pack_reached, pack_values};
 use crate::unicast::Unicast;
 use crate::update::{AppendedKeys, read_asked_keys, read_keys};
@@ -42,11 +42,12 @@ pub fn decode_entry<F: Unicast>(
     Ok(span)
 }
 
-/// The same of a route that keeps the attributes that are asked for.
+/// The same of a route that keeps the attributes that are asked for, which are written over what is in `block` first.
 #[tactic(auto, unfolding(crate::specs::Attributes::route_in))]
 pub fn decode_asked_entry<F: Unicast>(
     alloc: Global,
     bytes: &mut Vec<u8>,
+    block: &mut Vec<u8>,
     attrs: &[u8],
     asked: AttributeSet,
     width: Width,
@@ -64,8 +65,8 @@ pub fn decode_asked_entry<F: Unicast>(
         AttributeContext::RibEntry,
         width,
     )?;
-    let block = kept_block(alloc, &kept)?;
-    let span = pack_entry::<F>(alloc, bytes, &first, width, &block.values())?;
+    let values = kept_in(block, &kept)?;
+    let span = pack_entry::<F>(alloc, bytes, &first, width, &values)?;
     Ok(span)
 }
 
@@ -118,11 +119,13 @@ pub fn decode_update<F: Unicast>(
     Ok(spans)
 }
 
-/// The same of an UPDATE whose route keeps the attributes that are asked for.
+/// The same of an UPDATE whose route keeps the attributes that are asked for, which are written over what is in `block`
+/// first.
 pub fn decode_asked_update<F: Unicast>(
     alloc: Global,
     keys: &mut Vec<RouteKey<Prefix<F>>>,
     bytes: &mut Vec<u8>,
+    block: &mut Vec<u8>,
     body: &[u8],
     asked: AttributeSet,
     width: Width,
@@ -138,8 +141,7 @@ pub fn decode_asked_update<F: Unicast>(
     let mut first = FirstValues::new();
     let mut kept = AskedValues::new(asked);
     let appended = read_asked_keys(keys, body, width, add_path, &mut first, &mut kept)?;
-    let block = kept_block(alloc, &kept)?;
-    let values = block.values();
+    let values = kept_in(block, &kept)?;
     let route = pack_values(alloc, bytes, &first, width, &values)?;
     let reached_route = pack_reached(alloc, bytes, &first, width, &values, &appended)?;
     let spans = spans_of(start, &appended, route, reached_route)?;

@@ -98,26 +98,28 @@ fn push_kept(out: &mut Vec<u8>, kept: &AskedValues<'_>) -> Result<(), Memory>
     push_each(out, kept, &KeptAttribute::ALL)
 }
 
-/// How many bytes the attributes that were asked for take.
-fn room_for(kept: &AskedValues<'_>) -> usize
-    requires { HasRoom kept.now }
+/// Returns the attributes that were asked for and are there, in the order of columns, whose bytes are written over those
+/// of a block of memory.
+pub(crate) fn kept_in<'a>(
+    block: &'a mut Vec<u8>,
+    kept: &AskedValues<'_>,
+) -> Result<KeptValues<'a>, Memory>
+    requires room { HasRoom kept.now }
+    requires short { AreShort kept.now }
+    ensures { IfOk result (λ values. values ≡ values_asked kept.now) }
 {
-    let mut room = 0usize;
-    for attribute in &KeptAttribute::ALL {
-        if let Some(value) = kept.value(*attribute) {
-            room = room.saturating_add(value.len().saturating_add(3));
-        }
-    }
-    room
+    block.clear();
+    push_kept(block, kept)?;
+    Ok(KeptValues::of_bytes(block.as_slice()))
 }
 
-/// Returns the attributes that were asked for and are there, in the order of columns. Their memory is allocated once.
+/// Returns the attributes that were asked for and are there, in the order of columns, in memory of their own.
 pub(crate) fn kept_block(alloc: Global, kept: &AskedValues<'_>) -> Result<KeptBlock, Memory>
     requires room { HasRoom kept.now }
     requires short { AreShort kept.now }
     ensures { IfOk result (λ block. block ≡ values_asked kept.now) }
 {
-    let mut bytes = Vec::with_capacity(alloc, room_for(kept))?;
+    let mut bytes = Vec::new(alloc);
     push_kept(&mut bytes, kept)?;
     Ok(KeptBlock::of_bytes(bytes))
 }

@@ -70,6 +70,7 @@ fn decode_asked_message<F: Unicast>(
     alloc: Global,
     keys: &mut Vec<RouteKey<Prefix<F>>>,
     bytes: &mut Vec<u8>,
+    kept: &mut Vec<u8>,
     rules: Rules<F>,
     message: &[u8],
     width: Width,
@@ -88,7 +89,16 @@ fn decode_asked_message<F: Unicast>(
     if kind != UPDATE {
         return Ok(DecodedEvent::Other);
     }
-    match decode_asked_update(alloc, keys, bytes, body, rules.kept(), width, add_path) {
+    match decode_asked_update(
+        alloc,
+        keys,
+        bytes,
+        kept,
+        body,
+        rules.kept(),
+        width,
+        add_path,
+    ) {
         Ok(spans) => Ok(DecodedEvent::Change(spans)),
         Err(AttrError::Bad(fault)) => Ok(DecodedEvent::Damaged(fault)),
         Err(AttrError::Memory) => Err(Memory),
@@ -138,6 +148,7 @@ fn keep_asked_entry<F: Unicast>(
     alloc: Global,
     events: &mut Vec<DecodedEvent<Prefix<F>>>,
     bytes: &mut Vec<u8>,
+    kept: &mut Vec<u8>,
     rules: Rules<F>,
     key: RouteKey<Prefix<F>>,
     attrs: &[u8],
@@ -146,7 +157,7 @@ fn keep_asked_entry<F: Unicast>(
         keys bytes.new.items events.new.items (entry_event_in rules key attrs.now)) }
     ensures none { OnErr result (events.new.items ≡ []) }
 {
-    match decode_asked_entry::<F>(alloc, bytes, attrs, rules.kept(), Width::Four) {
+    match decode_asked_entry::<F>(alloc, bytes, kept, attrs, rules.kept(), Width::Four) {
         Ok(route) => keep(events, DecodedEvent::Rib { key, route }),
         Err(AttrError::Bad(fault)) => keep(events, DecodedEvent::Damaged(fault)),
         Err(AttrError::Memory) => {
@@ -165,6 +176,7 @@ fn keep_asked<F: Unicast>(
     events: &mut Vec<DecodedEvent<Prefix<F>>>,
     keys: &mut Vec<RouteKey<Prefix<F>>>,
     bytes: &mut Vec<u8>,
+    kept: &mut Vec<u8>,
     payload: &PayloadRef<'_, F>,
 ) -> Result<(), Memory>
     ensures kept { OnOk result (IsOneMore keys.old.items bytes.old.items events.old.items
@@ -183,7 +195,9 @@ fn keep_asked<F: Unicast>(
             rules,
         } => {
             let message = message.as_slice();
-            match decode_asked_message(alloc, keys, bytes, *rules, message, *width, *add_path) {
+            match decode_asked_message(
+                alloc, keys, bytes, kept, *rules, message, *width, *add_path,
+            ) {
                 Ok(event) => keep(events, event),
                 Err(memory) => {
                     events.clear();
@@ -192,7 +206,7 @@ fn keep_asked<F: Unicast>(
             }
         }
         Payload::Entry { rules, key, attrs } => {
-            keep_asked_entry(alloc, events, bytes, *rules, *key, attrs.as_slice())
+            keep_asked_entry(alloc, events, bytes, kept, *rules, *key, attrs.as_slice())
         }
         Payload::Clear => keep(events, DecodedEvent::Clear),
     }
@@ -207,6 +221,7 @@ fn keep_decoded<F: Unicast>(
     events: &mut Vec<DecodedEvent<Prefix<F>>>,
     keys: &mut Vec<RouteKey<Prefix<F>>>,
     bytes: &mut Vec<u8>,
+    kept: &mut Vec<u8>,
     payload: &PayloadRef<'_, F>,
 ) -> Result<(), Memory>
     ensures kept { OnOk result (IsOneMore keys.old.items bytes.old.items events.old.items
@@ -225,7 +240,7 @@ fn keep_decoded<F: Unicast>(
             rules,
         } => {
             if !rules.is_plain() {
-                return keep_asked(alloc, events, keys, bytes, payload);
+                return keep_asked(alloc, events, keys, bytes, kept, payload);
             }
             let message = message.as_slice();
             match decode_message(alloc, keys, bytes, message, *width, *add_path) {
@@ -238,7 +253,7 @@ fn keep_decoded<F: Unicast>(
         }
         Payload::Entry { rules, key, attrs } => {
             if !rules.is_plain() {
-                return keep_asked(alloc, events, keys, bytes, payload);
+                return keep_asked(alloc, events, keys, bytes, kept, payload);
             }
             keep_entry(alloc, events, bytes, *key, attrs.as_slice())
         }
@@ -253,6 +268,8 @@ pub struct DecodedEvents<F: Unicast = u32> {
     events: Vec<DecodedEvent<Prefix<F>>>,
     keys: Vec<RouteKey<Prefix<F>>>,
     bytes: Vec<u8>,
+    /// What the route that was packed last keeps, if attributes are asked for.
+    kept: Vec<u8>,
 }
 
 impl<F: Unicast> Model for DecodedEvents<F> {
@@ -281,6 +298,7 @@ impl<F: Unicast> DecodedEvents<F> {
             events: Vec::new(alloc),
             keys: Vec::new(alloc),
             bytes: Vec::new(alloc),
+            kept: Vec::new(alloc),
         }
     }
 
@@ -311,6 +329,7 @@ impl<F: Unicast> DecodedEvents<F> {
             &mut self.events,
             &mut self.keys,
             &mut self.bytes,
+            &mut self.kept,
             payload,
         )
     }

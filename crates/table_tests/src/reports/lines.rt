@@ -67,9 +67,9 @@ fn packed(rt: &impl Abort, alloc: Global, attributes: &str, hops: &[u128]) -> Pa
             .extend_from_slice(&hop.to_be_bytes())
             .expect(rt, attributes);
     }
-    let mut bytes = Vec::new(alloc);
-    let all = AttributeSet::all();
-    let span = decode_asked_entry::<Ipv6>(alloc, &mut bytes, attrs.as_slice(), all, Width::Four);
+    let (mut bytes, mut kept) = (Vec::new(alloc), Vec::new(alloc));
+    let (attrs, all) = (attrs.as_slice(), AttributeSet::all());
+    let span = decode_asked_entry::<Ipv6>(alloc, &mut bytes, &mut kept, attrs, all, Width::Four);
     let span = span.expect(rt, attributes);
     (bytes, span)
 }

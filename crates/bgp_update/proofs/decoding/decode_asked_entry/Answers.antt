@@ -17,7 +17,7 @@ returns-clause-exact g c =
     let route = route_at c.pack_entry.new.out.items c.in_ok-span.span in
     let began = c.new-kept.ensures.asked in
     let said : route ≡ entry_route (rules_of g.F.Unicast.family c.args.asked) c.args.width (all_values first kept) =
-    c.in_ok-span.ensures.is ∙ ap (λ (ks : List KeptValue). kept_entry_route g.F.Unicast.family c.args.width first ks) (c.values.ensures ∙ c.in_ok-block.ensures) ∙ asked_entry g.F.Unicast.family c.args.width first kept
+    c.in_ok-span.ensures.is ∙ ap (λ (ks : List KeptValue). kept_entry_route g.F.Unicast.family c.args.width first ks) c.in_ok-values.ensures ∙ asked_entry g.F.Unicast.family c.args.width first kept
     ∙ ap (λ (s : AttributeSet). entry_route (rules_of g.F.Unicast.family s) c.args.width (all_values first kept)) (c.in_ok-keep_asked.ensures.asked ∙ began) in
     route_of_first_values (rules_of g.F.Unicast.family c.args.asked) c.args.width c.args.attrs.now (all_values first kept) route
     (subst (λ (s : AttributeSet). KeepsFirst (rules_of g.F.Unicast.family s) RibEntry c.args.width c.args.attrs.now (all_values first kept)) began c.in_ok-keep_asked.ensures.values) said

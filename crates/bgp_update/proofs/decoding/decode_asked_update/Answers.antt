@@ -27,9 +27,9 @@ returns g c =
     let read = update_in (rules_of g.F.Unicast.family c.args.asked) c.args.width c.args.add_path c.args.body.now in
     let ks : List KeptValue = values_asked c.read_asked_keys.new.asked in
     let adds : AddsRoute old mid (kept_route c.args.width first ks) c.in_ok-route.route =
-    subst (λ (k : List KeptValue). AddsRoute old mid (kept_route c.args.width first k) c.in_ok-route.route) (c.values-values.ensures ∙ c.in_ok-block.ensures) own in
+    subst (λ (k : List KeptValue). AddsRoute old mid (kept_route c.args.width first k) c.in_ok-route.route) c.in_ok-values.ensures own in
     let by_reached : IfSome c.in_ok-reached_route.reached_route (AddsRoute mid new (by_hop (kept_route c.args.width first ks) n.reached_hop)) =
-    subst (λ (k : List KeptValue). IfSome c.in_ok-reached_route.reached_route (AddsRoute mid new (by_hop (kept_route c.args.width first k) n.reached_hop))) (c.values-values.ensures ∙ c.in_ok-block.ensures) reached.route in
+    subst (λ (k : List KeptValue). IfSome c.in_ok-reached_route.reached_route (AddsRoute mid new (by_hop (kept_route c.args.width first k) n.reached_hop))) c.in_ok-values.ensures reached.route in
     let decoded = decoded_update keys c.read_asked_keys.new.keys.items old mid new n (kept_route c.args.width first ks) read c.in_ok-route.route c.in_ok-reached_route.reached_route c.in_ok-spans.spans
     (subst (λ (s : AttributeSet). AreKeysOf keys c.read_asked_keys.new.keys.items n (kept_route c.args.width first ks) (update_in (rules_of g.F.Unicast.family s) c.args.width c.args.add_path c.args.body.now)) c.new-kept.ensures.asked c.in_ok-appended.ensures.said) spans adds reached.grown by_reached reached.both in
     record { exact = decoded.0; there = decoded.1; keys = c.in_ok-appended.ensures.grown; bytes = IsGrown-trans old mid new own.grown reached.grown }
