@@ -1,5 +1,5 @@
 -- Examples of what bits mean and of what files unpack to, by computation.
-use Rattle.std.proofs.Common.{◌≡◌, ℕ, refl, true, false, Some, None, Ok, Err, List, [], ◌∷◌, ◌++◌, take}
+use Rattle.std.proofs.Common.{◌≡◌, ℕ, arith, refl, true, false, Some, None, Ok, Err, List, [], ◌∷◌, ◌++◌, ap, get_or, take}
 use Rattle.std.specs.Prelude.{codes}
 use Rattle.mrt_frame.proofs.Hexadecimal.{hex}
 use Rattle.bzip2_reader.specs.declared.fault.BlockFault.TheVariants.{BadChecksum, Randomised, ShortBlock}
@@ -8,10 +8,12 @@ use Rattle.bzip2_reader.specs.Checksums.{crc, crc_bits, crc_bit}
 use Rattle.bzip2_reader.specs.Runs.{written, written_from}
 use Rattle.bzip2_reader.specs.Fields.{bits_of, number, number_from}
 use Rattle.bzip2_reader.specs.Codes.{code_of, depth_at, first_code, fits, length_from, lengths_from, selectors_at, selectors_from, symbol_at, table_at, tables_at, used_selectors}
+use Rattle.bzip2_reader.specs.Rotations.{AreSortedRotations, IsTransform, rotations}
 use Rattle.bzip2_reader.specs.Symbols.{column_from, values_at, values_in}
 use Rattle.bzip2_reader.specs.Transform.{row_after, text_from, text_of}
 use Rattle.bzip2_reader.specs.Blocks.{block_at, block_head_at, rows_at}
 use Rattle.bzip2_reader.specs.Files.{block_in, end_in, head_at, unpack, unpack_from, unpacked}
+use Rattle.bzip2_reader.proofs.RotationLaws.{in_order, in_order_are, one_column}
 
 fields : record {
   of_a_byte : bits_of (0xA5 ∷ []) ≡ 1 ∷ 0 ∷ 1 ∷ 0 ∷ 0 ∷ 1 ∷ 0 ∷ 1 ∷ [];
@@ -39,14 +41,39 @@ codes_of_lengths : record {
 unfolding first_code fits symbol_at number_from
 codes_of_lengths = record { a = refl; e = refl; f = refl; h = refl; fit = refl; do_not_fit = refl; found = refl; shorter = refl; short = refl }
 
--- "banana": its sorted rotations are abanan, anaban, ananab, banana, nabana and nanaba
+-- "banana" and its rotations, in order
+abbrev rows : List (List ℕ)
+rows = codes "abanan" ∷ codes "anaban" ∷ codes "ananab" ∷ codes "banana" ∷ codes "nabana" ∷ codes "nanaba" ∷ []
+
+banana_row : IsTransform (codes "banana") (codes "nnbaaa") 3
+banana_row = record { rows = rows; sorted = in_order_are (codes "banana"); last = refl; inside = omega arith; itself = refl }
+
+-- In order the rotations of "abab" are abab, abab, baba and baba: the text is the first row and the second.
+rotated : record {
+  of_banana : rotations (codes "banana") ≡ codes "banana" ∷ codes "ananab" ∷ codes "nanaba" ∷ codes "anaban" ∷ codes "nabana" ∷ codes "abanan" ∷ [];
+  in_their_order : AreSortedRotations (codes "banana") rows;
+  banana : IsTransform (codes "banana") (codes "nnbaaa") 3;
+  no_other : (row : ℕ) → IsTransform (codes "banana") (codes "nbnaaa") row → ⊥;
+  periodic : IsTransform (codes "abab") (codes "bbaa") 0;
+  equal_row : IsTransform (codes "abab") (codes "bbaa") 1;
+}
+rotated = record {
+  of_banana = refl;
+  in_their_order = in_order_are (codes "banana");
+  banana = banana_row;
+  no_other = λ row t. (let e : ◌≡◌ {A = ℕ} 98 110 = ap (λ l. get_or l 1 0) (one_column (codes "banana") (codes "nbnaaa") (codes "nnbaaa") row 3 t banana_row) in omega (arith, e));
+  periodic = record { rows = in_order (rotations (codes "abab")); sorted = in_order_are (codes "abab"); last = refl; inside = omega arith; itself = refl };
+  equal_row = record { rows = in_order (rotations (codes "abab")); sorted = in_order_are (codes "abab"); last = refl; inside = omega arith; itself = refl };
+}
+
 transforms : record {
   banana : text_of (codes "nnbaaa") 3 ≡ codes "banana";
   another_row : text_of (codes "nnbaaa") 0 ≡ codes "abanan";
   periodic : text_of (codes "bbaa") 0 ≡ codes "abab";
+  equal_row : text_of (codes "bbaa") 1 ≡ codes "abab";
 }
 unfolding row_after text_from
-transforms = record { banana = refl; another_row = refl; periodic = refl }
+transforms = record { banana = refl; another_row = refl; periodic = refl; equal_row = refl }
 
 -- ---- files that Python's bz2 wrote
 

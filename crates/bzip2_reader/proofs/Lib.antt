@@ -15,6 +15,7 @@ pub mod MoveLaws
 pub mod OrderLaws
 pub mod PartLaws
 pub mod ReadLaws
+pub mod RotationLaws
 pub mod RowLaws
 pub mod RunLaws
 pub mod SelectorLaws

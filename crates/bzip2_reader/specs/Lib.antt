@@ -15,6 +15,7 @@ pub mod Left
 pub mod Links
 pub mod Orders
 pub mod Reading
+pub mod Rotations
 pub mod Runs
 pub mod Steady
 pub mod StreamViews

@@ -66,5 +66,5 @@ mod window;
 pub use batch::{Alone, Beside, Job, Team};
 pub use fault::{BlockFault, Cause, Damage};
 pub use front::is_bzip2;
-pub use laws::{blocks_stand_alone, files_unpack_part_by_part};
+pub use laws::{blocks_stand_alone, files_unpack_part_by_part, transforms_are_inverted};
 pub use reader::Bunzip;
