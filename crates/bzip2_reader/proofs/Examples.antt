@@ -66,14 +66,17 @@ rotated = record {
   equal_row = record { rows = in_order (rotations (codes "abab")); sorted = in_order_are (codes "abab"); last = refl; inside = omega arith; itself = refl };
 }
 
+-- Equal bytes of a column in the other order would lead elsewhere.
 transforms : record {
+  rows_after : row_after (codes "nnbaaa") ≡ 3 ∷ 4 ∷ 5 ∷ 2 ∷ 0 ∷ 1 ∷ [];
+  other_order : text_from (codes "nnbaaa") (5 ∷ 4 ∷ 3 ∷ 2 ∷ 1 ∷ 0 ∷ []) 3 6 ≡ codes "bababa";
   banana : text_of (codes "nnbaaa") 3 ≡ codes "banana";
   another_row : text_of (codes "nnbaaa") 0 ≡ codes "abanan";
   periodic : text_of (codes "bbaa") 0 ≡ codes "abab";
   equal_row : text_of (codes "bbaa") 1 ≡ codes "abab";
 }
 unfolding row_after text_from
-transforms = record { banana = refl; another_row = refl; periodic = refl; equal_row = refl }
+transforms = record { rows_after = refl; other_order = refl; banana = refl; another_row = refl; periodic = refl; equal_row = refl }
 
 -- ---- files that Python's bz2 wrote
 

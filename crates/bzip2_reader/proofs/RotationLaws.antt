@@ -21,7 +21,7 @@ use Rattle.bzip2_reader.specs.Codes.{count_of}
 use Rattle.bzip2_reader.specs.Links.{AreSmall}
 use Rattle.bzip2_reader.specs.Orders.{count_below, place_of}
 use Rattle.bzip2_reader.specs.Rotations.{AreSortedRotations, IsTransform, last_byte, rotation, rotations}
-use Rattle.bzip2_reader.specs.Transform.{row_after, text_from, text_of}
+use Rattle.bzip2_reader.specs.Transform.{row_after, text_from}
 use Rattle.bzip2_reader.proofs.CodeLaws.{count_more}
 use Rattle.bzip2_reader.proofs.OrderLaws.{place_before}
 use Rattle.bzip2_reader.proofs.RowLaws.{place_there, row_at, rows_inside}
@@ -362,14 +362,8 @@ module _ (text : List ℕ) (rows : List (List ℕ)) (small : AreSmall text) (are
       ∙ ap (take (suc m)) (sym (row_before k h))
 
   -- each row is read from its place on
-  pub row_read : (k : ℕ) → k < length rows → text_of (map last_byte rows) k ≡ get_or rows k []
-  row_read k h =
-      let e : length (map last_byte rows) ≡ length text = length-map rows last_byte ∙ as_many in
-      reads (length (map last_byte rows)) k (omega (arith, e)) h ∙ take_all (length (map last_byte rows)) (get_or rows k []) (omega (arith, e, each_size k h))
-
--- a transform's column and row give back the text
-pub inverted : (text column : List ℕ) (row : ℕ) → AreSmall text → IsTransform text column row → text_of column row ≡ text
-inverted text column row small t = ap (λ c. text_of c row) t.last ∙ row_read text t.rows small t.sorted row t.inside ∙ t.itself
+  pub row_read : (k : ℕ) → k < length rows → text_from (map last_byte rows) (row_after (map last_byte rows)) k (length rows) ≡ get_or rows k []
+  row_read k h = reads (length rows) k (omega (arith, as_many)) h ∙ take_all (length rows) (get_or rows k []) (omega (arith, as_many, each_size k h))
 
 -- ---- each text has a transform
 
