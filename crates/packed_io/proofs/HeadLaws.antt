@@ -57,7 +57,7 @@ front_whole head rest e = subst (λ n. take n (head ++ rest) ≡ head) e (take-a
 front_all : (head rest : List ℕ) → length head ≤ 10 → rest ≡ [] → take 10 (head ++ rest) ≡ head
 front_all head rest h e = grind (arith, common_steps)
 
-front : (head rest : List ℕ) → length head ≤ 10 → (length head ≡ 10) ⊎ (rest ≡ []) → take 10 (head ++ rest) ≡ head
+pub front : (head rest : List ℕ) → length head ≤ 10 → (length head ≡ 10) ⊎ (rest ≡ []) → take 10 (head ++ rest) ≡ head
 front head rest h (inl e) = front_whole head rest e
 front head rest h (inr e) = front_all head rest h e
 

@@ -1,4 +1,5 @@
 pub mod Devices
+pub mod Endings
 pub mod Faults
 pub mod Formats
 pub mod Reading

@@ -1,6 +1,7 @@
 -- How far a file was read, and what it will give.
 use Rattle.std.specs.Prelude.{ℕ, List, Option}
-use Rattle.packed_io.specs.Stages.{StageBegun, StageEnded, StageFailed, StagePacked, StageWaits, stage_fault, stage_format, stage_remaining}
+use Rattle.packed_io.specs.Endings.{Ending}
+use Rattle.packed_io.specs.Stages.{StageBegun, StageEnded, StageFailed, StagePacked, StageWaits, stage_ending, stage_fault, stage_format, stage_remaining}
 use Rattle.packed_io.specs.declared.fault.PackedFault.{PackedFault}
 use Rattle.packed_io.specs.declared.format.Format.{Format}
 use Rattle.packed_io.specs.declared.unpacked.Unpacked.{Unpacked}
@@ -8,6 +9,10 @@ use Rattle.packed_io.specs.declared.unpacked.Unpacked.{Unpacked}
 -- the bytes that a file will give, where they are known: those of a file that is read as it is
 abbrev pub unpacked_remaining : {D : Type 0} → (D → Option (List ℕ)) → Unpacked D → Option (List ℕ)
 unpacked_remaining remaining u = stage_remaining remaining u.stage
+
+-- how a packed file ends, where its bytes are known: `Unpacked::fault` tells this
+abbrev pub file_ending : {D : Type 0} → (D → Option (List ℕ)) → Unpacked D → Option Ending
+file_ending remaining u = stage_ending remaining u.stage
 
 -- its first bytes are still being read
 abbrev pub IsWaiting : {D : Type 0} → Unpacked D → Type 0

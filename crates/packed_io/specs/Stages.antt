@@ -10,6 +10,7 @@ use Rattle.packed_io.specs.declared.decoder.Decoder.{Decoder}
 use Rattle.packed_io.specs.declared.decoder.Decoder.TheVariants.{Empty, Gzip, Bzip2}
 use Rattle.run_io.specs.Readers.{blocks_remaining}
 use Rattle.packed_io.specs.Devices.{first_remaining, head_bytes, place_remaining}
+use Rattle.packed_io.specs.Endings.{Ending, KeepsEnding, bzip2_ending, ending_failed, ending_of, ending_told, gzip_ending}
 use Rattle.packed_io.specs.Faults.{EndsTheData, FailsReading, ends_by, format_of_fault}
 use Rattle.packed_io.specs.Formats.{told_in, told_of}
 use Rattle.packed_io.specs.declared.decoder.Outcome.{Outcome}
@@ -42,6 +43,12 @@ decoder_remaining remaining (Gzip gunzip) = left_known gunzip (place_remaining r
 decoder_remaining remaining (Bzip2 bunzip) =
     given_of (to_come (place_remaining remaining (counted_device (device_of bunzip))) bunzip)
 
+-- how the file ends that it unpacks
+abbrev pub decoder_ending : {D : Type 0} → (D → Option (List ℕ)) → Decoder D → Option Ending
+decoder_ending remaining Empty = None
+decoder_ending remaining (Gzip gunzip) = gzip_ending gunzip (place_remaining remaining (counted_device (gunzip_source gunzip)))
+decoder_ending remaining (Bzip2 bunzip) = bzip2_ending (to_come (place_remaining remaining (counted_device (device_of bunzip))) bunzip)
+
 -- it was made for a file in this form, of whose known bytes it tells the same
 abbrev pub IsMade : {D : Type 0} → (D → Option (List ℕ)) → Format → Option (List ℕ) → Decoder D → Type 0
 IsMade remaining format.Plain known decoder = ⊤
@@ -53,12 +60,26 @@ OutcomeConsumes old new (outcome.Gave n) buffer = Consumes old new (take n buffe
 OutcomeConsumes old new (outcome.Ended fault) buffer = IsAtEnd old
 OutcomeConsumes old new (outcome.Failed fault error) buffer = Keeps old new
 
+-- a read of a packed file keeps how it ends, or tells it
+abbrev pub OutcomeEnds : Option Ending → Option Ending → Outcome → Type 0
+OutcomeEnds old new (outcome.Gave n) = KeepsEnding old new
+OutcomeEnds old new (outcome.Ended fault) = KeepsEnding old (Some (ending_told fault))
+OutcomeEnds old new (outcome.Failed fault error) = KeepsEnding old (ending_failed fault.cause new)
+
 abbrev pub stage_remaining : {D : Type 0} → (D → Option (List ℕ)) → Stage D → Option (List ℕ)
 stage_remaining remaining (Waiting w) = told_of (known_bytes remaining w)
 stage_remaining remaining (Plain blocks) = blocks_remaining (first_remaining remaining) blocks
 stage_remaining remaining (Packed form decoder) = decoder_remaining remaining (box_value decoder)
 stage_remaining remaining (Ended form fault) = Some []
 stage_remaining remaining (Failed fault error decoder) = decoder_remaining remaining (box_value decoder)
+
+-- how a packed file ends: as its known bytes do, or as was told
+abbrev pub stage_ending : {D : Type 0} → (D → Option (List ℕ)) → Stage D → Option Ending
+stage_ending remaining (Waiting w) = ending_of (known_bytes remaining w)
+stage_ending remaining (Plain blocks) = None
+stage_ending remaining (Packed form decoder) = decoder_ending remaining (box_value decoder)
+stage_ending remaining (Ended form fault) = Some (ending_told fault)
+stage_ending remaining (Failed fault error decoder) = ending_failed fault.cause (decoder_ending remaining (box_value decoder))
 
 abbrev pub StageWaits : {D : Type 0} → Stage D → Type 0
 StageWaits (Waiting w) = ⊤

@@ -3,9 +3,10 @@
 ghost use Rattle.std.specs.Prelude.{◌≡◌, ◌<◌, ◌≤◌, ◌⊎◌, Some, length, take, true, IfOk, IsErr, IsOk, OnErr, OnOk};
 ghost use Rattle.std.specs.Io.{ReadsAtMost};
 ghost use Rattle.std.specs.Io.KnownBytes.{Consumes, Keeps, ReadConsumes};
+ghost use Rattle.packed_io.specs.Endings.{KeepsEnding, TellsEnding, ending_failed, ending_of};
 ghost use Rattle.packed_io.specs.Formats.{told_of};
 ghost use Rattle.packed_io.specs.Faults.{EndsTheData, FailsReading};
-ghost use Rattle.packed_io.specs.Stages.{IsWhole, Opens, StageUnpacks, is_told, known_bytes};
+ghost use Rattle.packed_io.specs.Stages.{IsWhole, Opens, StageUnpacks, is_told, known_bytes, stage_ending};
 
 use crate::decoder::{Decoder, Outcome, read_boxed, take_boxed};
 use crate::fault::PackedFault;
@@ -67,6 +68,7 @@ impl<D: Read> Waiting<D> {
         D: Drop,
         requires { IsWhole D.remaining self.old }
         ensures opened { IfOk result (λ stage. Opens D.remaining self.old stage) }
+        ensures ends { IfOk result (λ stage. KeepsEnding (ending_of (known_bytes D.remaining self.old)) (stage_ending D.remaining stage)) }
         ensures kept { OnErr result (self.new ≡ self.old) }
     {
         let format = format_of(self.head.as_slice());
@@ -101,10 +103,11 @@ pub struct Unpacked<D> {
 }
 
 impl<D: Read> Unpacked<D> {
-    ghost use Rattle.packed_io.specs.Reading.{HasEnded, HasFailed, IsBegun, IsPacked, IsWaiting, fault_told, format_told, unpacked_remaining};
+    ghost use Rattle.packed_io.specs.Reading.{HasEnded, HasFailed, IsBegun, IsPacked, IsWaiting, fault_told, file_ending, format_told, unpacked_remaining};
 
     pub fn new(alloc: Global, device: D) -> Unpacked<D>
-        ensures { unpacked_remaining D.remaining result ≡ told_of (D.remaining device) }
+        ensures bytes { unpacked_remaining D.remaining result ≡ told_of (D.remaining device) }
+        ensures ends { file_ending D.remaining result ≡ ending_of (D.remaining device) }
     {
         Unpacked {
             alloc,
@@ -142,6 +145,8 @@ impl<D: Read> Unpacked<D> {
         ensures told { result ≡ fault_told self.now }
         ensures ended { HasEnded self.now → EndsTheData result }
         ensures failed { HasFailed self.now → FailsReading result }
+        // All reads keep how the file ends.
+        ensures ends { HasEnded self.now ⊎ HasFailed self.now → TellsEnding (file_ending D.remaining self.now) result }
     {
         match &self.stage {
             Stage::Ended(_, fault) => *fault,
@@ -156,6 +161,7 @@ impl<D: Read> Unpacked<D> {
     where
         D: Drop,
         ensures kept { Keeps (unpacked_remaining D.remaining self.old) (unpacked_remaining D.remaining self.new) }
+        ensures ends { KeepsEnding (file_ending D.remaining self.old) (file_ending D.remaining self.new) }
         ensures begun { OnOk result (IsBegun self.new) }
         ensures waiting { OnErr result (IsWaiting self.new) }
         ensures same { IsBegun self.old → IsOk result × (self.new ≡ self.old) }
@@ -175,6 +181,7 @@ impl<D: Read> Unpacked<D> {
         requires fails { FailsReading (Some fault) }
         ensures failed { HasFailed self.new }
         ensures same { unpacked_remaining D.remaining self.new ≡ unpacked_remaining D.remaining self.old }
+        ensures ends { file_ending D.remaining self.new ≡ ending_failed fault.cause (file_ending D.remaining self.old) }
     {
         let stage = mem::replace(&mut self.stage, Stage::Ended(fault.format(), None));
         self.stage = match stage {
@@ -192,6 +199,7 @@ impl<D: Read> Unpacked<D> {
         requires packed { IsPacked self.old }
         ensures bound { ReadsAtMost result buf.new }
         ensures bytes { ReadConsumes (unpacked_remaining D.remaining self.old) (unpacked_remaining D.remaining self.new) result buf.new }
+        ensures ending { KeepsEnding (file_ending D.remaining self.old) (file_ending D.remaining self.new) }
         ensures packed { IsPacked self.new }
         ensures fails { OnErr result (HasFailed self.new) }
         ensures ends { result ≡ Ok 0 → 0 < length buf.new → HasEnded self.new }
@@ -223,7 +231,7 @@ impl<D: Read> Unpacked<D> {
 }
 
 impl<D: Read + Drop> Unpacked<D> {
-    ghost use Rattle.packed_io.specs.Reading.{HasEnded, HasFailed, IsPacked, fault_told, format_told, unpacked_remaining};
+    ghost use Rattle.packed_io.specs.Reading.{HasEnded, HasFailed, IsPacked, fault_told, file_ending, format_told, unpacked_remaining};
 
     /// Gives bytes of a plain file's block, or those that are unpacked of a gzip file, as many as there are left and as
     /// there is room for. Nothing is read: where there are none, `read` goes on. Whoever reads a few bytes at a time
@@ -232,6 +240,7 @@ impl<D: Read + Drop> Unpacked<D> {
     pub fn take_held(&mut self, buf: &mut [u8]) -> usize
         ensures bound { result ≤ length buf.new }
         ensures bytes { Consumes (unpacked_remaining D.remaining self.old) (unpacked_remaining D.remaining self.new) (take result buf.new) }
+        ensures ending { KeepsEnding (file_ending D.remaining self.old) (file_ending D.remaining self.new) }
         ensures packed { IsPacked self.old → IsPacked self.new × (format_told self.new ≡ format_told self.old) × (fault_told self.new ≡ fault_told self.old) }
         ensures over { HasEnded self.old ⊎ HasFailed self.old → (result ≡ 0) × (self.new ≡ self.old) }
     {
@@ -249,6 +258,7 @@ impl<D: Read + Drop> Unpacked<D> {
         requires { T.is_ready team.now }
         ensures bound { ReadsAtMost result buf.new }
         ensures bytes { ReadConsumes (unpacked_remaining D.remaining self.old) (unpacked_remaining D.remaining self.new) result buf.new }
+        ensures ending { KeepsEnding (file_ending D.remaining self.old) (file_ending D.remaining self.new) }
         // Of a packed file the end and a failure are told by `fault`, and are final.
         ensures fails { OnErr result (IsPacked self.new → HasFailed self.new) }
         ensures ends { result ≡ Ok 0 → 0 < length buf.new → IsPacked self.new → HasEnded self.new }
@@ -266,13 +276,14 @@ impl<D: Read + Drop> Unpacked<D> {
 }
 
 impl<D: Read + Drop> Read for Unpacked<D> {
-    ghost use Rattle.packed_io.specs.Reading.{HasEnded, HasFailed, IsPacked, unpacked_remaining};
+    ghost use Rattle.packed_io.specs.Reading.{HasEnded, HasFailed, IsPacked, file_ending, unpacked_remaining};
 
     ghost remaining = { unpacked_remaining D.remaining };
 
     fn read(&mut self, buf: &mut [u8]) -> io::Result<usize>
         ensures bound { ReadsAtMost result buf.new }
         ensures bytes { ReadConsumes (unpacked_remaining D.remaining self.old) (unpacked_remaining D.remaining self.new) result buf.new }
+        ensures ending { KeepsEnding (file_ending D.remaining self.old) (file_ending D.remaining self.new) }
         ensures fails { OnErr result (IsPacked self.new → HasFailed self.new) }
         ensures ends { result ≡ Ok 0 → 0 < length buf.new → IsPacked self.new → HasEnded self.new }
         ensures stays_failed { HasFailed self.old → IsErr result × (self.new ≡ self.old) }

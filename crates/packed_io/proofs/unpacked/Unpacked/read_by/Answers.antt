@@ -1,8 +1,10 @@
 use Rattle.std.proofs.Common.{◌≡◌, ◌∙◌, IsErr, Ok, subst, sym}
 use Rattle.std.proofs.KnownBytes.{Keeps-refl}
 use Rattle.std.specs.Io.KnownBytes.{Keeps}
-use Rattle.packed_io.specs.Reading.{HasEnded, HasFailed, unpacked_remaining}
-use Rattle.packed_io.specs.Stages.{StageEnded, StageFailed}
+use Rattle.packed_io.specs.Endings.{KeepsEnding}
+use Rattle.packed_io.specs.Reading.{HasEnded, HasFailed, file_ending, unpacked_remaining}
+use Rattle.packed_io.specs.Stages.{StageEnded, StageFailed, stage_ending}
+use Rattle.packed_io.proofs.EndingLaws.{keeps_refl, keeps_trans}
 use Rattle.packed_io.proofs.HeadLaws.{at_errors, kept_consumes, plain_consumes, same_told}
 use Rattle.packed_io.proofs.unpacked.Unpacked.read_by.Goals as goal
 use Rattle.packed_io.proofs.unpacked.Unpacked.read_by.Goals.{in-Waiting+in_ok-begin, in_default}
@@ -16,9 +18,22 @@ returns-in-Plain-clause-bytes g c =
     ] in
     plain_consumes remaining c.args.self.now c.match-self.self c.in-Plain.blocks _ _ _ kept c.in-Plain.is c.read.ensures.bytes
 
+pub returns-in-Plain-clause-ending : goal.returns-in-Plain-clause-ending
+returns-in-Plain-clause-ending g c =
+    let remaining = g.D.Read.remaining in
+    let ends : KeepsEnding (file_ending remaining c.args.self.now) (file_ending remaining c.match-self.self) = elim c.match-self.branch [
+      | in-Waiting+in_ok-begin w ↦ subst (λ u. KeepsEnding (file_ending remaining c.args.self.now) (file_ending remaining u)) (sym w.self-is) w.begin.ensures.ends
+      | in_default w ↦ subst (λ u. KeepsEnding (file_ending remaining c.args.self.now) (file_ending remaining u)) (sym w.self-is) (keeps_refl (file_ending remaining c.args.self.now))
+    ] in
+    subst (λ stage. KeepsEnding (file_ending remaining c.args.self.now) (stage_ending remaining stage)) c.in-Plain.is ends
+
 pub returns : goal.returns
 returns g c =
     let remaining = g.D.Read.remaining in
+    let ends : KeepsEnding (file_ending remaining c.args.self.now) (file_ending remaining c.match-self.self) = elim c.match-self.branch [
+      | in-Waiting+in_ok-begin w ↦ subst (λ u. KeepsEnding (file_ending remaining c.args.self.now) (file_ending remaining u)) (sym w.self-is) w.begin.ensures.ends
+      | in_default w ↦ subst (λ u. KeepsEnding (file_ending remaining c.args.self.now) (file_ending remaining u)) (sym w.self-is) (keeps_refl (file_ending remaining c.args.self.now))
+    ] in
     let kept : Keeps (unpacked_remaining remaining c.args.self.now) (unpacked_remaining remaining c.match-self.self) = elim c.match-self.branch [
       | in-Waiting+in_ok-begin w ↦ subst (λ u. Keeps (unpacked_remaining remaining c.args.self.now) (unpacked_remaining remaining u)) (sym w.self-is) w.begin.ensures.kept
       | in_default w ↦ subst (λ u. Keeps (unpacked_remaining remaining c.args.self.now) (unpacked_remaining remaining u)) (sym w.self-is) (Keeps-refl (unpacked_remaining remaining c.args.self.now))
@@ -26,6 +41,7 @@ returns g c =
     record {
       bound = c.read_packed.ensures.bound;
       bytes = kept_consumes _ _ _ _ _ kept c.read_packed.ensures.bytes;
+      ending = keeps_trans _ _ _ ends c.read_packed.ensures.ending;
       fails = at_errors _ _ _ c.read_packed.ensures.fails;
       ends = λ at_end room _. c.read_packed.ensures.ends at_end room;
       stays_failed = λ failed. elim c.match-self.branch [
