@@ -1,5 +1,5 @@
 -- How a packed file ends, where its bytes are known, and what is told of it.
-use Rattle.std.specs.Prelude.{◌≡◌, ⊤, ℕ, List, Bool, true, false, not, Option, None, Some, take, if◌then◌else◌}
+use Rattle.std.specs.Prelude.{◌≡◌, ⊤, ℕ, List, Bool, true, false, not, Option, None, Some, take}
 use Rattle.std.specs.Option.{option_map}
 use Rattle.std.specs.Result.{result_err}
 use Rattle.bzip2_reader.specs.Endings.{is_failure}
@@ -45,20 +45,16 @@ KeepsEnding (Some ending) None = ⊥
 KeepsEnding (Some ending) (Some other) = other ≡ ending
 
 -- the file is to blame, and not its device or want of memory
-abbrev pub is_of_file : PackedCause → Bool
-is_of_file (Gzip flaw.Device) = false
-is_of_file (Gzip flaw) = true
-is_of_file (Bzip2 cause) = not (is_failure cause)
+abbrev pub is_of_file : Ending → Bool
+is_of_file None = true
+is_of_file (Some (Gzip flaw.Device)) = false
+is_of_file (Some (Gzip flaw)) = true
+is_of_file (Some (Bzip2 cause)) = not (is_failure cause)
 
 -- the ending that a fault tells, or that none was told
 abbrev pub ending_told : Option PackedFault → Ending
 ending_told fault = option_map (λ f. f.cause) fault
 
--- how a file ends whose reading failed by this cause: by it, or as before where the file is not to blame
-abbrev pub ending_failed : PackedCause → Option Ending → Option Ending
-ending_failed cause before = if is_of_file cause then Some (Some cause) else before
-
 -- the file ends as is told, unless it is told that the file is not to blame
 abbrev pub TellsEnding : Option Ending → Option PackedFault → Type 0
-TellsEnding ending None = ending ≡ Some None
-TellsEnding ending (Some fault) = is_of_file fault.cause ≡ true → ending ≡ Some (Some fault.cause)
+TellsEnding ending fault = is_of_file (ending_told fault) ≡ true → ending ≡ Some (ending_told fault)

@@ -1,20 +1,23 @@
 -- How far a file was read.
-use Rattle.std.specs.Prelude.{◌≡◌, ◌<◌, ◌≤◌, ◌⊎◌, ⊤, ℕ, Bool, true, not, List, [], Option, Some, None, length, take, box_value}
+use Rattle.std.specs.Prelude.{◌≡◌, ◌<◌, ◌≤◌, ◌⊎◌, ⊤, ℕ, Bool, true, not, ◌||◌, if◌then◌else◌, List, [], Option, Some, None, length, take, box_value}
+use Rattle.std.specs.Option.{option_map}
 use Rattle.std.specs.Io.KnownBytes.{Consumes, IsAtEnd, Keeps, prepend_known}
 use Rattle.mrt_frame.specs.Devices.{counted_device}
 use Rattle.gzip_reader.specs.Gives.{left_known}
-use Rattle.gzip_reader.specs.Readers.{gunzip_source}
+use Rattle.gzip_reader.specs.Readers.{fault_of, gunzip_source}
 use Rattle.bzip2_reader.specs.Coming.{given_of}
-use Rattle.bzip2_reader.specs.Reading.{device_of, to_come}
+use Rattle.bzip2_reader.specs.Reading.{damage_of, device_of, to_come}
 use Rattle.packed_io.specs.declared.decoder.Decoder.{Decoder}
 use Rattle.packed_io.specs.declared.decoder.Decoder.TheVariants.{Empty, Gzip, Bzip2}
 use Rattle.run_io.specs.Readers.{blocks_remaining}
 use Rattle.packed_io.specs.Devices.{first_remaining, head_bytes, place_remaining}
-use Rattle.packed_io.specs.Endings.{Ending, KeepsEnding, bzip2_ending, ending_failed, ending_of, ending_told, gzip_ending}
+use Rattle.packed_io.specs.Endings.{Ending, KeepsEnding, bzip2_ending, ending_of, ending_told, gzip_ending, is_of_file}
 use Rattle.packed_io.specs.Faults.{EndsTheData, FailsReading, ends_by, format_of_fault}
 use Rattle.packed_io.specs.Formats.{told_in, told_of}
 use Rattle.packed_io.specs.declared.decoder.Outcome.{Outcome}
 use Rattle.packed_io.specs.declared.decoder.Outcome.TheVariants as outcome
+use Rattle.packed_io.specs.declared.fault.PackedCause.{PackedCause}
+use Rattle.packed_io.specs.declared.fault.PackedCause.TheVariants as cause
 use Rattle.packed_io.specs.declared.fault.PackedFault.{PackedFault}
 use Rattle.packed_io.specs.declared.format.Format.{Format}
 use Rattle.packed_io.specs.declared.format.Format.TheVariants as format
@@ -49,6 +52,18 @@ decoder_ending remaining Empty = None
 decoder_ending remaining (Gzip gunzip) = gzip_ending gunzip (place_remaining remaining (counted_device (gunzip_source gunzip)))
 decoder_ending remaining (Bzip2 bunzip) = bzip2_ending (to_come (place_remaining remaining (counted_device (device_of bunzip))) bunzip)
 
+-- the ending that the reader of its form told
+abbrev pub decoder_told : {D : Type 0} → Decoder D → Ending
+decoder_told Empty = None
+decoder_told (Gzip gunzip) = option_map (λ fault. cause.Gzip fault.flaw) (fault_of gunzip)
+decoder_told (Bzip2 bunzip) = option_map (λ damage. cause.Bzip2 damage.cause) (damage_of bunzip)
+
+-- how a file ends whose reading failed by this cause: by it; or as before, where that reader told it too that the file
+-- is not to blame
+abbrev pub failed_ending : {D : Type 0} → (D → Option (List ℕ)) → PackedCause → Decoder D → Option Ending
+failed_ending remaining cause decoder =
+    if is_of_file (Some cause) || is_of_file (decoder_told decoder) then Some (Some cause) else decoder_ending remaining decoder
+
 -- it was made for a file in this form, of whose known bytes it tells the same
 abbrev pub IsMade : {D : Type 0} → (D → Option (List ℕ)) → Format → Option (List ℕ) → Decoder D → Type 0
 IsMade remaining format.Plain known decoder = ⊤
@@ -61,10 +76,11 @@ OutcomeConsumes old new (outcome.Ended fault) buffer = IsAtEnd old
 OutcomeConsumes old new (outcome.Failed fault error) buffer = Keeps old new
 
 -- a read of a packed file keeps how it ends, or tells it
-abbrev pub OutcomeEnds : Option Ending → Option Ending → Outcome → Type 0
-OutcomeEnds old new (outcome.Gave n) = KeepsEnding old new
-OutcomeEnds old new (outcome.Ended fault) = KeepsEnding old (Some (ending_told fault))
-OutcomeEnds old new (outcome.Failed fault error) = KeepsEnding old (ending_failed fault.cause new)
+abbrev pub OutcomeEnds : {D : Type 0} → (D → Option (List ℕ)) → Decoder D → Decoder D → Outcome → Type 0
+OutcomeEnds remaining old new (outcome.Gave n) = KeepsEnding (decoder_ending remaining old) (decoder_ending remaining new)
+OutcomeEnds remaining old new (outcome.Ended fault) = KeepsEnding (decoder_ending remaining old) (Some (ending_told fault))
+OutcomeEnds remaining old new (outcome.Failed fault error) =
+    KeepsEnding (decoder_ending remaining old) (failed_ending remaining fault.cause new)
 
 abbrev pub stage_remaining : {D : Type 0} → (D → Option (List ℕ)) → Stage D → Option (List ℕ)
 stage_remaining remaining (Waiting w) = told_of (known_bytes remaining w)
@@ -79,7 +95,12 @@ stage_ending remaining (Waiting w) = ending_of (known_bytes remaining w)
 stage_ending remaining (Plain blocks) = None
 stage_ending remaining (Packed form decoder) = decoder_ending remaining (box_value decoder)
 stage_ending remaining (Ended form fault) = Some (ending_told fault)
-stage_ending remaining (Failed fault error decoder) = ending_failed fault.cause (decoder_ending remaining (box_value decoder))
+stage_ending remaining (Failed fault error decoder) = failed_ending remaining fault.cause (box_value decoder)
+
+-- how it ends after its reading failed by this cause
+abbrev pub stage_failed_ending : {D : Type 0} → (D → Option (List ℕ)) → PackedCause → Stage D → Option Ending
+stage_failed_ending remaining cause (Packed form decoder) = failed_ending remaining cause (box_value decoder)
+stage_failed_ending remaining cause other = stage_ending remaining other
 
 abbrev pub StageWaits : {D : Type 0} → Stage D → Type 0
 StageWaits (Waiting w) = ⊤

@@ -75,7 +75,7 @@ fn read_gzip<D: Read>(gunzip: &mut Gunzip<Counted<Place<D>>>, buf: &mut [u8]) ->
     ensures outcome { IsOutcome result buf.new }
     ensures bytes { OutcomeConsumes (left_known gunzip.old (place_remaining D.remaining (counted_device (gunzip_source gunzip.old))))
         (left_known gunzip.new (place_remaining D.remaining (counted_device (gunzip_source gunzip.new)))) result buf.new }
-    ensures ends { OutcomeEnds (decoder_ending D.remaining (Decoder.Gzip gunzip.old)) (decoder_ending D.remaining (Decoder.Gzip gunzip.new)) result }
+    ensures ending { OutcomeEnds D.remaining (Decoder.Gzip gunzip.old) (Decoder.Gzip gunzip.new) result }
 {
     gunzip.source().gives_its_bytes();
     let read = gunzip.read_some(buf);
@@ -99,7 +99,7 @@ fn take_gzip<D: Read>(gunzip: &mut Gunzip<Counted<Place<D>>>, buf: &mut [u8]) ->
     ensures bound { result ≤ length buf.new }
     ensures bytes { Consumes (left_known gunzip.old (place_remaining D.remaining (counted_device (gunzip_source gunzip.old))))
         (left_known gunzip.new (place_remaining D.remaining (counted_device (gunzip_source gunzip.new)))) (take result buf.new) }
-    ensures ends { KeepsEnding (decoder_ending D.remaining (Decoder.Gzip gunzip.old)) (decoder_ending D.remaining (Decoder.Gzip gunzip.new)) }
+    ensures ending { KeepsEnding (decoder_ending D.remaining (Decoder.Gzip gunzip.old)) (decoder_ending D.remaining (Decoder.Gzip gunzip.new)) }
 {
     gunzip.source().gives_its_bytes();
     let count = gunzip.take_held(buf);
@@ -116,7 +116,7 @@ fn read_bzip2<D: Read, T: Team>(
     ensures outcome { IsOutcome result buf.new }
     ensures bytes { OutcomeConsumes (given_of (to_come (place_remaining D.remaining (counted_device (device_of bunzip.old))) bunzip.old))
         (given_of (to_come (place_remaining D.remaining (counted_device (device_of bunzip.new))) bunzip.new)) result buf.new }
-    ensures ends { OutcomeEnds (decoder_ending D.remaining (Decoder.Bzip2 bunzip.old)) (decoder_ending D.remaining (Decoder.Bzip2 bunzip.new)) result }
+    ensures ending { OutcomeEnds D.remaining (Decoder.Bzip2 bunzip.old) (Decoder.Bzip2 bunzip.new) result }
 {
     bunzip.device().gives_its_bytes();
     let read = bunzip.read_by(team, buf);
@@ -145,7 +145,7 @@ impl<D: Read + Drop> Decoder<D> {
     ) -> Result<Box<Decoder<D>>, AllocError>
         ensures made { IfOk result (λ made. IsMade D.remaining format
             (prepend_known (head_bytes head.now) (place_remaining D.remaining place.old)) (box_value made)) }
-        ensures ends { IfOk result (λ made. KeepsEnding (ending_in format
+        ensures ending { IfOk result (λ made. KeepsEnding (ending_in format
             (prepend_known (head_bytes head.now) (place_remaining D.remaining place.old))) (decoder_ending D.remaining (box_value made))) }
         ensures kept { OnErr result (place.new ≡ place.old) }
     {
@@ -163,7 +163,7 @@ impl<D: Read + Drop> Decoder<D> {
     ) -> Result<Decoder<D>, AllocError>
         ensures made { IfOk result (IsMade D.remaining format
             (prepend_known (head_bytes head.now) (place_remaining D.remaining place.old))) }
-        ensures ends { IfOk result (λ made. KeepsEnding (ending_in format
+        ensures ending { IfOk result (λ made. KeepsEnding (ending_in format
             (prepend_known (head_bytes head.now) (place_remaining D.remaining place.old))) (decoder_ending D.remaining made)) }
         ensures kept { OnErr result (place.new ≡ place.old) }
     {
@@ -201,7 +201,7 @@ impl<D: Read> Decoder<D> {
     fn take_held(&mut self, buf: &mut [u8]) -> usize
         ensures bound { result ≤ length buf.new }
         ensures bytes { Consumes (decoder_remaining D.remaining self.old) (decoder_remaining D.remaining self.new) (take result buf.new) }
-        ensures ends { KeepsEnding (decoder_ending D.remaining self.old) (decoder_ending D.remaining self.new) }
+        ensures ending { KeepsEnding (decoder_ending D.remaining self.old) (decoder_ending D.remaining self.new) }
     {
         match self {
             Decoder::Gzip(gunzip) => take_gzip(gunzip, buf),
@@ -215,7 +215,7 @@ impl<D: Read> Decoder<D> {
         ensures outcome { IsOutcome result buf.new }
         ensures bytes { OutcomeConsumes (decoder_remaining D.remaining self.old) (decoder_remaining D.remaining self.new)
             result buf.new }
-        ensures ends { OutcomeEnds (decoder_ending D.remaining self.old) (decoder_ending D.remaining self.new) result }
+        ensures ending { OutcomeEnds D.remaining self.old self.new result }
     {
         match self {
             Decoder::Empty => Outcome::Ended(None),
@@ -231,7 +231,7 @@ pub(crate) fn take_boxed<D: Read>(decoder: &mut Box<Decoder<D>>, buf: &mut [u8])
     ensures bound { result ≤ length buf.new }
     ensures bytes { Consumes (decoder_remaining D.remaining (box_value decoder.old))
         (decoder_remaining D.remaining (box_value decoder.new)) (take result buf.new) }
-    ensures ends { KeepsEnding (decoder_ending D.remaining (box_value decoder.old)) (decoder_ending D.remaining (box_value decoder.new)) }
+    ensures ending { KeepsEnding (decoder_ending D.remaining (box_value decoder.old)) (decoder_ending D.remaining (box_value decoder.new)) }
 {
     decoder.take_held(buf)
 }
@@ -246,7 +246,7 @@ pub(crate) fn read_boxed<D: Read, T: Team>(
     ensures outcome { IsOutcome result.0 buf.new }
     ensures bytes { OutcomeConsumes (decoder_remaining D.remaining (box_value decoder.old))
         (decoder_remaining D.remaining (box_value decoder.new)) result.0 buf.new }
-    ensures ends { OutcomeEnds (decoder_ending D.remaining (box_value decoder.old)) (decoder_ending D.remaining (box_value decoder.new)) result.0 }
+    ensures ending { OutcomeEnds D.remaining (box_value decoder.old) (box_value decoder.new) result.0 }
 {
     let outcome = decoder.read_by(team, buf);
     (outcome, decoder.bytes_read())

@@ -18,7 +18,8 @@
 //! no thread waits for another one without an end. Threads may be started or not: only time depends on it.
 //!
 //! What a file will give is told to the contracts where its device tells its bytes: of a file that is read as it is the
-//! first bytes that weren't given yet, and then the device's; of a packed one what all of them unpack to.
+//! first bytes that weren't given yet, and then the device's; of a packed one what all of them unpack to. Then they are
+//! told how a packed file ends too: by what is wrong with its bytes, which `Unpacked::fault` tells, or with nothing.
 #![tactic(auto)]
 
 mod decoder;

@@ -3,10 +3,10 @@
 ghost use Rattle.std.specs.Prelude.{◌≡◌, ◌<◌, ◌≤◌, ◌⊎◌, Some, length, take, true, IfOk, IsErr, IsOk, OnErr, OnOk};
 ghost use Rattle.std.specs.Io.{ReadsAtMost};
 ghost use Rattle.std.specs.Io.KnownBytes.{Consumes, Keeps, ReadConsumes};
-ghost use Rattle.packed_io.specs.Endings.{KeepsEnding, TellsEnding, ending_failed, ending_of};
+ghost use Rattle.packed_io.specs.Endings.{KeepsEnding, TellsEnding, ending_of};
 ghost use Rattle.packed_io.specs.Formats.{told_of};
 ghost use Rattle.packed_io.specs.Faults.{EndsTheData, FailsReading};
-ghost use Rattle.packed_io.specs.Stages.{IsWhole, Opens, StageUnpacks, is_told, known_bytes, stage_ending};
+ghost use Rattle.packed_io.specs.Stages.{IsWhole, Opens, StageUnpacks, is_told, known_bytes, stage_ending, stage_failed_ending};
 
 use crate::decoder::{Decoder, Outcome, read_boxed, take_boxed};
 use crate::fault::PackedFault;
@@ -68,7 +68,7 @@ impl<D: Read> Waiting<D> {
         D: Drop,
         requires { IsWhole D.remaining self.old }
         ensures opened { IfOk result (λ stage. Opens D.remaining self.old stage) }
-        ensures ends { IfOk result (λ stage. KeepsEnding (ending_of (known_bytes D.remaining self.old)) (stage_ending D.remaining stage)) }
+        ensures ending { IfOk result (λ stage. KeepsEnding (ending_of (known_bytes D.remaining self.old)) (stage_ending D.remaining stage)) }
         ensures kept { OnErr result (self.new ≡ self.old) }
     {
         let format = format_of(self.head.as_slice());
@@ -107,7 +107,7 @@ impl<D: Read> Unpacked<D> {
 
     pub fn new(alloc: Global, device: D) -> Unpacked<D>
         ensures bytes { unpacked_remaining D.remaining result ≡ told_of (D.remaining device) }
-        ensures ends { file_ending D.remaining result ≡ ending_of (D.remaining device) }
+        ensures ending { file_ending D.remaining result ≡ ending_of (D.remaining device) }
     {
         Unpacked {
             alloc,
@@ -140,13 +140,14 @@ impl<D: Read> Unpacked<D> {
         }
     }
 
-    /// What is wrong with a packed file, once its end or a failure was told.
+    /// What is wrong with a packed file, once its end or a failure was told: the cause by which its bytes end, unless
+    /// its device or memory failed.
     pub fn fault(&self) -> Option<PackedFault>
         ensures told { result ≡ fault_told self.now }
         ensures ended { HasEnded self.now → EndsTheData result }
         ensures failed { HasFailed self.now → FailsReading result }
         // All reads keep how the file ends.
-        ensures ends { HasEnded self.now ⊎ HasFailed self.now → TellsEnding (file_ending D.remaining self.now) result }
+        ensures ending { HasEnded self.now ⊎ HasFailed self.now → TellsEnding (file_ending D.remaining self.now) result }
     {
         match &self.stage {
             Stage::Ended(_, fault) => *fault,
@@ -161,7 +162,7 @@ impl<D: Read> Unpacked<D> {
     where
         D: Drop,
         ensures kept { Keeps (unpacked_remaining D.remaining self.old) (unpacked_remaining D.remaining self.new) }
-        ensures ends { KeepsEnding (file_ending D.remaining self.old) (file_ending D.remaining self.new) }
+        ensures ending { KeepsEnding (file_ending D.remaining self.old) (file_ending D.remaining self.new) }
         ensures begun { OnOk result (IsBegun self.new) }
         ensures waiting { OnErr result (IsWaiting self.new) }
         ensures same { IsBegun self.old → IsOk result × (self.new ≡ self.old) }
@@ -181,7 +182,7 @@ impl<D: Read> Unpacked<D> {
         requires fails { FailsReading (Some fault) }
         ensures failed { HasFailed self.new }
         ensures same { unpacked_remaining D.remaining self.new ≡ unpacked_remaining D.remaining self.old }
-        ensures ends { file_ending D.remaining self.new ≡ ending_failed fault.cause (file_ending D.remaining self.old) }
+        ensures ending { file_ending D.remaining self.new ≡ stage_failed_ending D.remaining fault.cause self.old.stage }
     {
         let stage = mem::replace(&mut self.stage, Stage::Ended(fault.format(), None));
         self.stage = match stage {

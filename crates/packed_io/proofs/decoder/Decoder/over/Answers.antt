@@ -30,6 +30,6 @@ returns-in_ok-gunzip-in-Gzip g c =
     λ P p. subst (λ (f : Format). P f (prepend_known head (place_remaining remaining c.args.place.now))) (sym c.in-Gzip.is) (subst (λ known. P format.Gzip (prepend_known head known)) device p) in
     record {
       made = at (λ f known. IsMade remaining f known (Gzip gunzip)) (gzip_keeps gunzip head left_now gives);
-      ends = at (λ f known. KeepsEnding (ending_in f known) (decoder_ending remaining (Gzip gunzip))) (gzip_ends gunzip head left_now gives);
+      ending = at (λ f known. KeepsEnding (ending_in f known) (decoder_ending remaining (Gzip gunzip))) (gzip_ends gunzip head left_now gives);
       kept = tt;
     }

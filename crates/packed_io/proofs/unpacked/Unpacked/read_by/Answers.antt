@@ -22,7 +22,7 @@ pub returns-in-Plain-clause-ending : goal.returns-in-Plain-clause-ending
 returns-in-Plain-clause-ending g c =
     let remaining = g.D.Read.remaining in
     let ends : KeepsEnding (file_ending remaining c.args.self.now) (file_ending remaining c.match-self.self) = elim c.match-self.branch [
-      | in-Waiting+in_ok-begin w ↦ subst (λ u. KeepsEnding (file_ending remaining c.args.self.now) (file_ending remaining u)) (sym w.self-is) w.begin.ensures.ends
+      | in-Waiting+in_ok-begin w ↦ subst (λ u. KeepsEnding (file_ending remaining c.args.self.now) (file_ending remaining u)) (sym w.self-is) w.begin.ensures.ending
       | in_default w ↦ subst (λ u. KeepsEnding (file_ending remaining c.args.self.now) (file_ending remaining u)) (sym w.self-is) (keeps_refl (file_ending remaining c.args.self.now))
     ] in
     subst (λ stage. KeepsEnding (file_ending remaining c.args.self.now) (stage_ending remaining stage)) c.in-Plain.is ends
@@ -31,7 +31,7 @@ pub returns : goal.returns
 returns g c =
     let remaining = g.D.Read.remaining in
     let ends : KeepsEnding (file_ending remaining c.args.self.now) (file_ending remaining c.match-self.self) = elim c.match-self.branch [
-      | in-Waiting+in_ok-begin w ↦ subst (λ u. KeepsEnding (file_ending remaining c.args.self.now) (file_ending remaining u)) (sym w.self-is) w.begin.ensures.ends
+      | in-Waiting+in_ok-begin w ↦ subst (λ u. KeepsEnding (file_ending remaining c.args.self.now) (file_ending remaining u)) (sym w.self-is) w.begin.ensures.ending
       | in_default w ↦ subst (λ u. KeepsEnding (file_ending remaining c.args.self.now) (file_ending remaining u)) (sym w.self-is) (keeps_refl (file_ending remaining c.args.self.now))
     ] in
     let kept : Keeps (unpacked_remaining remaining c.args.self.now) (unpacked_remaining remaining c.match-self.self) = elim c.match-self.branch [

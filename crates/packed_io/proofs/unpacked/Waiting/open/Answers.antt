@@ -17,7 +17,7 @@ returns-in-Plain g c =
     let now = c.new.ensures ∙ ap (λ p. prepend_known head (place_remaining g.D.Read.remaining p)) c.take_out.ensures in
     record {
       opened = (tt, refl, opens_plain head _ _ _ size c.requires form c.in-Plain.is now);
-      ends = subst (λ (x : Option Ending). KeepsEnding x None) (sym (plain_ends head (place_remaining g.D.Read.remaining c.args.self.now.place) _ size c.requires form c.in-Plain.is)) tt;
+      ending = subst (λ (x : Option Ending). KeepsEnding x None) (sym (plain_ends head (place_remaining g.D.Read.remaining c.args.self.now.place) _ size c.requires form c.in-Plain.is)) tt;
       kept = tt;
     }
 
@@ -28,6 +28,6 @@ returns-in_ok-decoder-in-Gzip g c =
     let form = c.format_of-format.ensures ∙ ap format_of c.as_slice.ensures.bytes in
     record {
       opened = (tt, refl, opens_packed head _ _ _ size c.requires form (made_keeps g.D.Read.remaining _ _ _ c.in-Gzip.is c.in_ok-decoder-in-Gzip.ensures.made));
-      ends = subst (λ (x : Option Ending). KeepsEnding x (decoder_ending g.D.Read.remaining (box_value c.in_ok-decoder-in-Gzip.decoder))) (sym (ends_as head (place_remaining g.D.Read.remaining c.args.self.now.place) _ size c.requires form)) c.in_ok-decoder-in-Gzip.ensures.ends;
+      ending = subst (λ (x : Option Ending). KeepsEnding x (decoder_ending g.D.Read.remaining (box_value c.in_ok-decoder-in-Gzip.decoder))) (sym (ends_as head (place_remaining g.D.Read.remaining c.args.self.now.place) _ size c.requires form)) c.in_ok-decoder-in-Gzip.ensures.ending;
       kept = tt;
     }
