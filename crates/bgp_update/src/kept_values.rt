@@ -98,8 +98,8 @@ fn push_kept(out: &mut Vec<u8>, kept: &AskedValues<'_>) -> Result<(), Memory>
     push_each(out, kept, &KeptAttribute::ALL)
 }
 
-/// Returns the attributes that were asked for and are there, in the order of columns, whose bytes are written over those
-/// of a block of memory.
+/// Returns the attributes that were asked for and are there, in the order of columns. Their bytes are written over what
+/// is in a block of memory.
 pub(crate) fn kept_in<'a>(
     block: &'a mut Vec<u8>,
     kept: &AskedValues<'_>,
