@@ -17,7 +17,7 @@ use Rattle.mrt_frame.proofs.Items.{ok_is}
 use Rattle.mrt_frame.proofs.FieldLaws.{byte_at-again, number_at-again, bytes_at-again}
 use Rattle.bgp_update.specs.declared.asked_values.AskedValues.{AskedValues}
 use Rattle.bgp_update.specs.KeptAttributes.{KeptValue, all_kept, asked_item}
-use Rattle.bgp_update.specs.KeptBytes.{FitsKept, kept_item_bytes, kept_bytes, kept_item_at, spelled_values, AreKeptBytes}
+use Rattle.bgp_update.specs.KeptBytes.{FitsKept, IsShort, kept_item_bytes, kept_bytes, kept_item_at, spelled_values, AreKeptBytes}
 use Rattle.bgp_update.specs.Values.{asked_value, values_asked}
 use Rattle.bgp_update.proofs.Readings.{items_in-spelled}
 
@@ -110,3 +110,7 @@ any_kept bytes h = by_values (spelled_values bytes) h.written
 
 pub no_kept_bytes : AreKeptBytes []
 no_kept_bytes = kept-bytes [] tt (omega arith)
+
+-- the first attribute that is kept is as short as all
+pub first_is_short : (bytes : List ℕ) (k : KeptValue) (ks : List KeptValue) → AreKeptBytes bytes → spelled_values bytes ≡ k ∷ ks → IsShort k.value
+first_is_short bytes k ks h e = (subst (λ (l : List KeptValue). AllByRecursion FitsKept l) e h.fits).0

@@ -1,6 +1,6 @@
 -- The bytes of a route spell it: what is packed is unpacked again.
 use Rattle.std.proofs.Common.{◌≡◌, ℕ, suc, ◌+◌, ◌-◌, ◌*◌, ◌/◌, ◌%◌, ◌^◌, ◌<◌, ◌≤◌, Bool, true, false, cond, eqb, List, [], ◌∷◌, ◌++◌, length, get_or, take, drop, Option, Some, None, refl, sym, ap, subst, ◌∙◌, arith, append_assoc, Result}
-use Rattle.std.specs.Prelude.{is_some, IfSome}
+use Rattle.std.specs.Prelude.{is_some, IfSome, option_map}
 use Rattle.std.specs.List.{AllByRecursion}
 use Rattle.std.proofs.lemmas.Bool.{ne_eqb, eq-eqb}
 use Rattle.std.proofs.lemmas.List.{append-nil, length-append, drop_at, drop-drop, drop-take}
@@ -394,6 +394,11 @@ part_slice bytes start end h = sym (drop-take start (end - start) bytes) ∙ ap 
 pub path_there : (bytes : List ℕ) → part_bit 1 bytes ≡ 1 → Some (spelled_path (drop (starts_in bytes).path (take (path_end bytes) bytes))) ≡ (unpacked bytes).path
 unfolding unpacked
 path_there bytes e = ap (λ (bit : ℕ). path_by bit (drop (starts_in bytes).path (take (path_end bytes) bytes))) (sym e)
+
+-- the path of packed bytes is the value of AS_PATH
+pub path_spelled : (bytes : List ℕ) → IsPacked bytes → part_bit 1 bytes ≡ 1 → Some (drop (starts_in bytes).path (take (path_end bytes) bytes)) ≡ option_map (path_bytes 4) (unpacked bytes).path
+path_spelled bytes h e =
+    ap (λ (b : List ℕ). Some b) (packed_path bytes h e).written ∙ ap (option_map (path_bytes 4)) (path_there bytes e)
 
 pub path_slice : (bytes : List ℕ) (start end : ℕ) → IsPacked bytes → start ≡ (starts_in bytes).path → end ≡ path_end bytes → take (end - start) (drop start bytes) ≡ drop (starts_in bytes).path (take (path_end bytes) bytes)
 path_slice bytes start end h s e =

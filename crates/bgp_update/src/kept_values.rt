@@ -179,7 +179,8 @@ impl<'a> KeptValues<'a> {
 
     /// The value of an attribute, if it is kept.
     pub fn value(&self, attribute: KeptAttribute) -> Option<&'a [u8]>
-        ensures { option_map (λ value. value.now) result ≡ value_kept (kept_code attribute) self.now }
+        ensures value { option_map (λ value. value.now) result ≡ value_kept (kept_code attribute) self.now }
+        ensures short { IfSome (option_map (λ value. value.now) result) IsShort }
     {
         let code = attribute.code();
         let mut rest = self.bytes;
@@ -200,6 +201,7 @@ fn next_item(bytes: &[u8]) -> (KeptItem<'_>, &[u8])
     requires some { 0 < length bytes.now }
     ensures first { spelled_values bytes.now
         ≡ record { code = result.0.code; value = result.0.value.now } ∷ spelled_values result.1.now }
+    ensures short { IsShort result.0.value.now }
     ensures rest { AreKeptBytes result.1.now }
     ensures shorter { length result.1.now < length bytes.now }
 {

@@ -69,6 +69,7 @@ mod width;
 mod written_hop;
 
 pub use attr_error::AttrError;
+pub use attribute_type::AttributeType;
 pub use decoded::{HashedRoute, RouteSpan, Span, UpdateSpans};
 pub use decoding::{decode_asked_entry, decode_asked_update, decode_entry, decode_update};
 pub use family_mark::FamilyMark;

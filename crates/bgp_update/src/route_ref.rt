@@ -1,10 +1,11 @@
 //! A packed route whose bytes are borrowed, and its fields.
 
-ghost use Rattle.std.specs.Prelude.{◌≡◌, ◌↔◌, ◌+◌, ◌-◌, ◌≤◌, [], length, take, drop, IsTrue, MatchOption};
+ghost use Rattle.std.specs.Prelude.{◌≡◌, ◌↔◌, ◌+◌, ◌-◌, ◌≤◌, [], length, take, drop, option_map, IsTrue, MatchOption};
 ghost use Rattle.std.specs.Option.{option_and_then};
 ghost use Rattle.bgp_update.specs.Packing as packing;
 ghost use Rattle.bgp_update.specs.Packing.{IsPacked, unpacked, hop_by, hop_bits, aggregator_by, flag_bit, part_bit};
 ghost use Rattle.bgp_update.specs.Paths.{origin_as_of};
+ghost use Rattle.bgp_update.specs.Segments.{path_bytes};
 ghost use Rattle.bgp_update.specs.Equality.{route_eq};
 
 use crate::kept_values::KeptValues;
@@ -255,6 +256,19 @@ impl<'a> RouteRef<'a> {
         let bytes = self.bytes;
         if bytes[1] % 2 == 1 {
             Some(PackedSegments::of_bytes(&bytes[starts_in(bytes).path..path_end(bytes)]))
+        } else {
+            None
+        }
+    }
+
+    /// The value of AS_PATH, with four-octet AS numbers.
+    #[tactic(auto, using(crate::proofs::Packings::packed_room, crate::proofs::Packings::packed_parts), unfolding(crate::specs::Packing::unpacked, crate::specs::Packing::starts_in))]
+    pub fn path_value(&self) -> Option<&'a [u8]>
+        ensures { option_map (λ value. value.now) result ≡ option_map (path_bytes 4) self.now.path }
+    {
+        let bytes = self.bytes;
+        if bytes[1] % 2 == 1 {
+            Some(&bytes[starts_in(bytes).path..path_end(bytes)])
         } else {
             None
         }

@@ -1,6 +1,7 @@
 use Rattle.std.proofs.Common.{ℕ, List}
 use Rattle.bgp_update.specs.KeptAttributes.{KeptValue}
-use Rattle.bgp_update.proofs.KeptLaws.{next_kept, no_kept_fault}
+use Rattle.bgp_update.specs.KeptBytes.{spelled_values}
+use Rattle.bgp_update.proofs.KeptLaws.{first_is_short, next_kept, no_kept_fault}
 use Rattle.bgp_update.proofs.kept_values.next_item.Goals as goal
 
 pub unreachable-requires : goal.unreachable-requires
@@ -11,6 +12,11 @@ item code value = record { code = code; value = value }
 
 pub returns-clause-first : goal.returns-clause-first
 returns-clause-first c = (next_kept c.args.bytes.now (item c.in-Ok.item.code c.in-Ok.item.value.now) c.in-Ok.rest.now c.requires.kept c.in-Ok.ensures c.requires.some).first
+
+pub returns-clause-short : goal.returns-clause-short
+returns-clause-short c =
+    let k = item c.in-Ok.item.code c.in-Ok.item.value.now in
+    first_is_short c.args.bytes.now k (spelled_values c.in-Ok.rest.now) c.requires.kept (next_kept c.args.bytes.now k c.in-Ok.rest.now c.requires.kept c.in-Ok.ensures c.requires.some).first
 
 pub returns-clause-rest : goal.returns-clause-rest
 returns-clause-rest c = (next_kept c.args.bytes.now (item c.in-Ok.item.code c.in-Ok.item.value.now) c.in-Ok.rest.now c.requires.kept c.in-Ok.ensures c.requires.some).kept
