@@ -465,10 +465,11 @@ fn replay_files<F: Replayed>(
     start: Option<Instant>,
 ) -> u8 {
     let names = job.files.as_slice();
-    let Ok(packed) = packed_files_of(rt, names, watched.files, most_threads(threads, job)) else {
+    let threads_ahead = most_threads(threads, job);
+    let Ok((packed, pieces)) = packed_files_of(rt, names, watched.files, threads_ahead) else {
         return without_memory(rt, "the files were opened");
     };
-    let Ok(mut inputs) = inputs_of(rt, names, watched.files, &packed, watched) else {
+    let Ok(mut inputs) = inputs_of(rt, names, watched.files, &packed, pieces, watched) else {
         return without_memory(rt, "the files were opened");
     };
     let Ok(selection) = selection_of(rt.alloc(), job) else {

@@ -1,2 +1,3 @@
 pub mod HeadLaws
 pub mod EndingLaws
+pub mod PieceLaws

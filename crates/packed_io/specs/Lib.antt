@@ -4,3 +4,6 @@ pub mod Faults
 pub mod Formats
 pub mod Reading
 pub mod Stages
+pub mod Pieces
+pub mod Making
+pub mod Ahead

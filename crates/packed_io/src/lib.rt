@@ -12,10 +12,11 @@
 //! any other one, of the data, the device or the memory, comes with an error, at this read and at all later ones.
 //!
 //! `PackedFiles` are the packed files of a run, which threads unpack before they are read, in pieces of 256 KiB that
-//! wait until then. `PackedReader` reads one of them, and gives what `Unpacked` gives. Either side unpacks: a thread
-//! where few pieces wait and no other one is at the file, the reader where none waits and nobody is. What unpacks a
-//! file and the list of its pieces stand behind a lock each, and a lock that another thread has is passed over, so that
-//! no thread waits for another one without an end. Threads may be started or not: only time depends on it.
+//! wait until then in a ring for each file. `PackedReader` reads one of them, and gives what `Unpacked` gives. Either
+//! side unpacks: a thread where few pieces wait and no other one is at the file, the reader where none waits and nobody
+//! is. What unpacks a file and puts its pieces into the ring stands behind a lock, and a lock that another thread has
+//! is passed over, so that no thread waits for another one without an end. Threads may be started or not: only time
+//! depends on it.
 //!
 //! What a file will give is told to the contracts where its device tells its bytes: of a file that is read as it is the
 //! first bytes that weren't given yet, and then the device's; of a packed one what all of them unpack to. Then they are
@@ -29,6 +30,8 @@ mod head;
 mod packed_file;
 mod packed_files;
 mod packed_reader;
+mod piece_maker;
+mod pieces;
 mod place;
 mod slots;
 mod unpacked;
@@ -38,4 +41,5 @@ pub use fault::{Effect, PackedCause, PackedFault};
 pub use format::{Format, format_of};
 pub use packed_files::{Pace, PackedFiles};
 pub use packed_reader::PackedReader;
+pub use pieces::Pieces;
 pub use unpacked::Unpacked;

@@ -1,19 +1,20 @@
 //! A packed file that may be unpacked before it is read.
 
-use crate::fault::PackedFault;
+ghost use Rattle.std.specs.Prelude.{◌≡◌, IfOk};
+ghost use Rattle.packed_io.specs.Formats.{told_of};
+ghost use Rattle.packed_io.specs.Pieces.{pieces_remaining};
+
+use crate::piece_maker::PieceMaker;
+use crate::pieces::{Pieces, pieces_of};
 use crate::slots::Slots;
 use crate::unpacked::Unpacked;
 use bzip2_reader::{Alone, Beside, Team};
-use std::alloc::Global;
-use std::collections::VecDeque;
-use std::io::{self, ErrorKind, Read};
+use std::alloc::{AllocError, Global};
+use std::io::{self, Read};
 use std::marker::Sync;
 use std::sync::Mutex;
 use std::sync::atomic::{AtomicBool, AtomicU64, AtomicUsize, Ordering};
 use std::thread::Threads;
-
-/// How many bytes are unpacked at a time.
-const PIECE: usize = 262_144;
 
 /// How many pieces are unpacked before it is looked who is to unpack what, for each thread: as many bytes as four
 /// blocks of bzip2 have, and a few more.
@@ -22,95 +23,26 @@ const STEP: usize = 16;
 /// How many bytes may wait for each thread when more are unpacked, which is half of those that a step unpacks.
 const FEW: usize = 2_097_152;
 
-/// How a file ended.
-#[derive(Clone, Copy, Drop)]
-pub(crate) enum Ending {
-    /// All its bytes were given.
-    Ended(Option<PackedFault>),
-    Failed(Option<PackedFault>, io::Error),
-}
+/// For how many pieces there is room on their way, for each thread.
+const ROOM: usize = 24;
 
-/// What a file gives: bytes, and last of all how it ended.
+/// What unpacks a file, and what is noted of it.
 #[derive(Drop)]
-pub(crate) enum Piece {
-    Bytes(Vec<u8>),
-    End(Ending),
-}
-
-impl Piece {
-    fn len(&self) -> usize {
-        match self {
-            Piece::Bytes(bytes) => bytes.len(),
-            Piece::End(_) => 0,
-        }
-    }
-}
-
-/// The system's numbers of errors where no more files can be open, in the process and in the system.
-const NO_FILES: [i32; 2] = [24, 23];
-
-/// Whether a file that can't be read now might be when its turn comes: no memory was left, or too many files were open.
-fn is_passing(error: &io::Error) -> bool {
-    error.kind() == ErrorKind::OutOfMemory
-        || error
-            .raw_os_error()
-            .is_some_and(|number| NO_FILES.contains(&number))
-}
-
-/// What unpacks a file.
-#[derive(Drop)]
-struct Maker<D> {
-    /// None once the end or a failure was met, or the file was left.
-    contents: Option<Unpacked<D>>,
-    /// What was unpacked last, if it doesn't wait to be read yet.
-    kept: Option<Piece>,
-    /// How many bytes of the packed file were read.
-    packed_bytes: u64,
+struct Maker<D: Read> {
+    pieces: PieceMaker<D>,
     /// How many slots it holds.
     slots: usize,
-}
-
-impl<D: Read + Drop> Maker<D> {
-    /// Unpacks the next piece, if there is one. What fails for want of means may be tried again.
-    fn make<T: Team>(&mut self, alloc: Global, team: &T) -> io::Result<()>
-        requires { T.is_ready team.now }
-    {
-        let Some(contents) = &mut self.contents else {
-            return Ok(());
-        };
-        let mut bytes = Vec::new(alloc);
-        bytes.resize(PIECE, 0)?;
-        let piece = match contents.read_by(team, bytes.as_mut_slice()) {
-            Ok(0) => Piece::End(Ending::Ended(contents.fault())),
-            Ok(count) => {
-                bytes.truncate(count);
-                Piece::Bytes(bytes)
-            }
-            Err(error) => match contents.fault() {
-                None if is_passing(&error) => return Err(error),
-                fault => Piece::End(Ending::Failed(fault, error)),
-            },
-        };
-        self.packed_bytes = contents.packed_bytes();
-        if let Piece::End(_) = &piece {
-            self.contents = None;
-        }
-        self.kept = Some(piece);
-        Ok(())
-    }
 }
 
 /// A packed file that is unpacked by the thread that reads it, or before it is read by other threads, one at a time. No
 /// thread waits for another one here: a lock that another thread has is passed over.
 #[derive(Drop)]
-pub(crate) struct PackedFile<D> {
+pub(crate) struct PackedFile<D: Read> {
     alloc: Global,
     /// How many threads may unpack it side by side.
     jobs: usize,
     maker: Mutex<Maker<D>>,
-    /// What was unpacked and not read yet, in order.
-    ready: Mutex<VecDeque<Piece>>,
-    /// How many bytes that is.
+    /// How many bytes were handed over and not read yet.
     waiting: AtomicUsize,
     /// How many bytes of the packed file were read.
     packed_bytes: AtomicU64,
@@ -121,22 +53,31 @@ pub(crate) struct PackedFile<D> {
 }
 
 impl<D: Read + Drop> PackedFile<D> {
-    pub(crate) fn new(alloc: Global, device: D, jobs: usize) -> PackedFile<D> {
-        PackedFile {
+    /// Returns the file at a place among those of a run, and its pieces for who reads it.
+    pub(crate) fn new(
+        alloc: Global,
+        place: usize,
+        device: D,
+        jobs: usize,
+    ) -> Result<(PackedFile<D>, Pieces<D>), AllocError>
+        ensures { IfOk result (λ made. pieces_remaining D.remaining made.1 ≡ told_of (D.remaining device)) }
+    {
+        let room = jobs.saturating_mul(ROOM);
+        let (sender, pieces, device) = pieces_of(alloc, place, room, device)?;
+        let contents = Unpacked::new(alloc, device);
+        let file = PackedFile {
             alloc,
             jobs,
             maker: Mutex::new(Maker {
-                contents: Some(Unpacked::new(alloc, device)),
-                kept: None,
-                packed_bytes: 0,
+                pieces: PieceMaker::new(contents, sender),
                 slots: 0,
             }),
-            ready: Mutex::new(VecDeque::new(alloc)),
             waiting: AtomicUsize::new(0),
             packed_bytes: AtomicU64::new(0),
             is_done: AtomicBool::new(false),
             is_left: AtomicBool::new(false),
-        }
+        };
+        Ok((file, pieces))
     }
 
     pub(crate) fn packed_bytes(&self) -> u64 {
@@ -153,60 +94,42 @@ impl<D: Read + Drop> PackedFile<D> {
         self.waiting.load(Ordering::SeqCst) < self.jobs.saturating_mul(FEW)
     }
 
-    /// Takes the piece that is to be read next, if one waits.
-    pub(crate) fn take(&self, slots: &Slots) -> Option<Piece> {
-        let piece = self.ready.try_lock()?.pop_front()?;
-        self.waiting.fetch_sub(piece.len(), Ordering::SeqCst);
-        slots.remove_waiting(piece.len());
-        Some(piece)
+    /// Notes that so many bytes were read.
+    pub(crate) fn take(&self, count: usize, slots: &Slots) {
+        self.waiting.fetch_sub(count, Ordering::SeqCst);
+        slots.remove_waiting(count);
     }
 
-    /// Lets what was unpacked last wait to be read. Returns whether there was anything and it does.
-    fn put(&self, maker: &mut Maker<D>, slots: &Slots) -> io::Result<bool> {
-        let Some(piece) = maker.kept.take() else {
-            return Ok(false);
-        };
-        let Some(mut ready) = self.ready.try_lock() else {
-            maker.kept = Some(piece);
-            return Ok(false);
-        };
-        let count = piece.len();
-        match ready.push_back(piece) {
-            Ok(()) => {
-                self.waiting.fetch_add(count, Ordering::SeqCst);
-                slots.add_waiting(count);
-                Ok(true)
-            }
-            Err(failed) => {
-                maker.kept = Some(failed.value);
-                Err(io::Error::from(ErrorKind::OutOfMemory))
-            }
-        }
-    }
-
-    /// Unpacks a piece, and lets it wait to be read. Returns whether one more waits.
+    /// Unpacks a piece, and hands it over. Returns whether one more waits to be read.
     fn step<T: Team>(&self, maker: &mut Maker<D>, team: &T, slots: &Slots) -> io::Result<bool>
         requires { T.is_ready team.now }
     {
-        if maker.kept.is_none() {
-            maker.make(self.alloc, team)?;
-        }
+        let made = maker.pieces.make(self.alloc, team);
         self.packed_bytes
-            .store(maker.packed_bytes, Ordering::Relaxed);
-        self.put(maker, slots)
+            .store(maker.pieces.packed_bytes(), Ordering::Relaxed);
+        made?;
+        // It is counted first, since it may be read at once.
+        let count = maker.pieces.kept_bytes();
+        self.waiting.fetch_add(count, Ordering::SeqCst);
+        slots.add_waiting(count);
+        let is_put = maker.pieces.put();
+        if !is_put {
+            self.take(count, slots);
+        }
+        Ok(is_put)
     }
 
     /// Gives back the slots of a file that has ended, or that was left.
     fn settle(&self, maker: &mut Maker<D>, slots: &Slots) {
         if self.is_left.load(Ordering::SeqCst) {
-            maker.contents = None;
-            maker.kept = None;
-            self.clear(slots);
+            maker.pieces.leave();
+            slots.leave(self.waiting.swap(0, Ordering::SeqCst));
         }
-        if maker.contents.is_none() {
+        if maker.pieces.is_over() {
             slots.give(maker.slots);
             maker.slots = 0;
-            self.is_done.store(maker.kept.is_none(), Ordering::SeqCst);
+            self.is_done
+                .store(!maker.pieces.has_kept(), Ordering::SeqCst);
         }
     }
 
@@ -230,7 +153,11 @@ impl<D: Read + Drop> PackedFile<D> {
         slots: &Slots,
         is_read: bool,
     ) -> bool {
-        if self.is_done() || !self.has_few() || (!is_read && slots.has_many_waiting()) {
+        if self.is_done()
+            || !self.has_few()
+            || slots.has_many_left()
+            || (!is_read && slots.has_many_waiting())
+        {
             return false;
         }
         let is_some = match self.maker.try_lock() {
@@ -273,21 +200,13 @@ impl<D: Read + Drop> PackedFile<D> {
         is_some
     }
 
-    /// Notes that nothing more of the file is wanted, and drops what there is of it. A thread that is unpacking it does
-    /// so when it is done.
+    /// Notes that nothing more of the file is wanted, and drops what there is of it but for what was handed over. A
+    /// thread that is unpacking it does so when it is done.
     pub(crate) fn leave(&self, slots: &Slots) {
         self.is_left.store(true, Ordering::SeqCst);
         self.is_done.store(true, Ordering::SeqCst);
         if let Some(mut maker) = self.maker.try_lock() {
             self.settle(&mut *maker, slots);
-        }
-    }
-
-    /// Drops what waits to be read.
-    fn clear(&self, slots: &Slots) {
-        if let Some(mut ready) = self.ready.try_lock() {
-            *ready = VecDeque::new(self.alloc);
-            slots.remove_waiting(self.waiting.swap(0, Ordering::SeqCst));
         }
     }
 }

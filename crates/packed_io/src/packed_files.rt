@@ -1,6 +1,11 @@
 //! The packed files of a run, and the threads that unpack them before they are read.
 
+ghost use Rattle.std.specs.Prelude.{◌≡◌, IfOk};
+ghost use Rattle.packed_io.specs.Formats.{told_of};
+ghost use Rattle.packed_io.specs.Pieces.{pieces_remaining};
+
 use crate::packed_file::PackedFile;
+use crate::pieces::Pieces;
 use crate::slots::Slots;
 use std::alloc::{AllocError, Global};
 use std::io::Read;
@@ -31,7 +36,7 @@ pub trait Pace {
 
 /// The packed files of a run, in the order in which they are read.
 #[derive(Drop)]
-pub struct PackedFiles<D> {
+pub struct PackedFiles<D: Read> {
     alloc: Global,
     files: Vec<PackedFile<D>>,
     threads: usize,
@@ -54,11 +59,14 @@ impl<D: Read + Drop> PackedFiles<D> {
         }
     }
 
-    /// Adds the next file, which so many threads may unpack side by side.
-    pub fn add(&mut self, device: D, jobs: usize) -> Result<(), AllocError> {
-        let file = PackedFile::new(self.alloc, device, jobs.max(1).min(self.threads));
+    /// Adds the next file, which so many threads may unpack side by side, and returns its pieces for who reads it.
+    pub fn add(&mut self, device: D, jobs: usize) -> Result<Pieces<D>, AllocError>
+        ensures { IfOk result (λ pieces. pieces_remaining D.remaining pieces ≡ told_of (D.remaining device)) }
+    {
+        let jobs = jobs.max(1).min(self.threads);
+        let (file, pieces) = PackedFile::new(self.alloc, self.files.len(), device, jobs)?;
         self.files.push(file)?;
-        Ok(())
+        Ok(pieces)
     }
 
     /// Whether there is no file.

@@ -10,13 +10,19 @@ const TRIES: usize = 64;
 /// How many bytes may wait to be read for each thread, before files behind the one that is read are unpacked further.
 const WAITING_EACH: usize = 2_097_152;
 
+/// How many bytes of files that were left may be in memory for each thread. With more of them no thread unpacks files
+/// before they are read.
+const LEFT_EACH: usize = 8_388_608;
+
 /// Slots for so many threads. Whoever takes some gives them back; nobody waits for one. Beside them it is counted how
-/// many bytes were unpacked and wait to be read.
+/// many bytes were unpacked and wait to be read, and how many nobody will read, since their files were left.
 #[derive(Drop)]
 pub(crate) struct Slots {
     free: AtomicUsize,
     waiting: AtomicUsize,
     most_waiting: usize,
+    left: AtomicUsize,
+    most_left: usize,
 }
 
 impl Slots {
@@ -25,6 +31,8 @@ impl Slots {
             free: AtomicUsize::new(count),
             waiting: AtomicUsize::new(0),
             most_waiting: count.saturating_mul(WAITING_EACH),
+            left: AtomicUsize::new(0),
+            most_left: count.saturating_mul(LEFT_EACH),
         }
     }
 
@@ -41,6 +49,17 @@ impl Slots {
     /// Whether many bytes wait to be read.
     pub(crate) fn has_many_waiting(&self) -> bool {
         self.waiting.load(Ordering::SeqCst) >= self.most_waiting
+    }
+
+    /// Counts bytes that waited to be read, and that nobody will read.
+    pub(crate) fn leave(&self, count: usize) {
+        self.remove_waiting(count);
+        self.left.fetch_add(count, Ordering::SeqCst);
+    }
+
+    /// Whether many bytes are in memory that nobody will read.
+    pub(crate) fn has_many_left(&self) -> bool {
+        self.left.load(Ordering::SeqCst) >= self.most_left
     }
 
     /// Takes as many slots as are free, and at most these. It may take none though some are free.

@@ -2,7 +2,7 @@
 
 use crate::files::{BZIP2, EMPTY_BZIP2, EMPTY_GZIP, GZIP, PLAIN, file_of};
 use crate::reading::{Failing, read_all};
-use packed_io::{Effect, Pace, PackedFiles, PackedReader};
+use packed_io::{Effect, Pace, PackedFiles, PackedReader, Pieces};
 use std::alloc::Global;
 use std::io::ErrorKind;
 use std::marker::Sync;
@@ -34,19 +34,24 @@ const BEGUN: Eager = Eager { has_begun: true };
 
 const NOT_BEGUN: Eager = Eager { has_begun: false };
 
-/// PackedFiles of these files for so many threads. Each read of a file gives five bytes.
+/// The packed files of a run, and the pieces of each.
+type Ahead<'a> = (PackedFiles<Failing<'a>>, Vec<Pieces<Failing<'a>>>);
+
+/// These files for so many threads. Each read of a file gives five bytes.
 fn packed_of<'a>(
     rt: &impl Abort,
     alloc: Global,
     files: &'a [Vec<u8>],
     threads: usize,
-) -> PackedFiles<Failing<'a>> {
+) -> Ahead<'a> {
     let mut packed = PackedFiles::new(alloc, threads);
+    let mut all = Vec::new(alloc);
     for file in files {
         let device = Failing::new(file.as_slice(), 5, 0);
-        packed.add(device, 2).expect(rt, "memory for a packed file");
+        let pieces = packed.add(device, 2).expect(rt, "memory for a packed file");
+        all.push(pieces).expect(rt, "memory for its pieces");
     }
-    packed
+    (packed, all)
 }
 
 /// Files in each form, an empty one of each among them.
@@ -61,15 +66,16 @@ fn files_of(rt: &impl Abort, alloc: Global) -> Vec<Vec<u8>> {
 }
 
 /// Expects that each file gives its text, in turn, and ends whole.
-fn expect_texts(
+fn expect_texts<'a>(
     rt: &impl Abort,
     alloc: Global,
     files: &[Vec<u8>],
-    packed: &PackedFiles<Failing<'_>>,
+    packed: &PackedFiles<Failing<'a>>,
+    all: Vec<Pieces<Failing<'a>>>,
 ) {
     let text = file_of(rt, alloc, PLAIN);
-    for (place, file) in files.iter().enumerate() {
-        let mut reader = PackedReader::new(alloc, packed, place, BEGUN);
+    for (file, pieces) in files.iter().zip(all) {
+        let mut reader = PackedReader::new(alloc, packed, pieces, BEGUN);
         let read = read_all(rt, alloc, &mut reader);
         let is_empty = file.len() < 30;
         let expected: &[u8] = if is_empty { &[] } else { text.as_slice() };
@@ -84,8 +90,8 @@ fn expect_texts(
 fn a_reader_alone_unpacks(rt: HostRuntime) {
     let alloc = rt.alloc();
     let files = files_of(&rt, alloc);
-    let packed = packed_of(&rt, alloc, files.as_slice(), 2);
-    expect_texts(&rt, alloc, files.as_slice(), &packed);
+    let (packed, all) = packed_of(&rt, alloc, files.as_slice(), 2);
+    expect_texts(&rt, alloc, files.as_slice(), &packed, all);
 }
 
 /// What was unpacked before the reading begins is read then, and nobody waits for it to begin.
@@ -94,9 +100,9 @@ fn files_are_unpacked_before_they_are_read(rt: HostRuntime) {
     let alloc = rt.alloc();
     let files = files_of(&rt, alloc);
     for threads in [1usize, 2, 4] {
-        let packed = packed_of(&rt, alloc, files.as_slice(), threads);
+        let (packed, all) = packed_of(&rt, alloc, files.as_slice(), threads);
         packed.unpack(&rt, &NOT_BEGUN);
-        expect_texts(&rt, alloc, files.as_slice(), &packed);
+        expect_texts(&rt, alloc, files.as_slice(), &packed, all);
     }
 }
 
@@ -105,12 +111,12 @@ fn files_are_unpacked_while_they_are_read(rt: HostRuntime) {
     let alloc = rt.alloc();
     let files = files_of(&rt, alloc);
     for threads in [1usize, 2, 4] {
-        let packed = packed_of(&rt, alloc, files.as_slice(), threads);
+        let (packed, all) = packed_of(&rt, alloc, files.as_slice(), threads);
         join(
             &rt,
             || packed.unpack(&rt, &BEGUN),
             || {
-                expect_texts(&rt, alloc, files.as_slice(), &packed);
+                expect_texts(&rt, alloc, files.as_slice(), &packed, all);
                 packed.end();
             },
         );
@@ -123,9 +129,10 @@ fn a_file_may_be_left(rt: HostRuntime) {
     let alloc = rt.alloc();
     let files = files_of(&rt, alloc);
     let text = file_of(&rt, alloc, PLAIN);
-    let packed = packed_of(&rt, alloc, files.as_slice(), 2);
+    let (packed, all) = packed_of(&rt, alloc, files.as_slice(), 2);
     packed.unpack(&rt, &NOT_BEGUN);
-    let mut reader = PackedReader::new(alloc, &packed, 5, BEGUN);
+    let pieces = all.into_iter().nth(5).expect(&rt, "a sixth file");
+    let mut reader = PackedReader::new(alloc, &packed, pieces, BEGUN);
     let read = read_all(&rt, alloc, &mut reader);
     assert!(rt; read.error.is_none() && read.bytes.as_slice() == text.as_slice());
 }
@@ -140,11 +147,11 @@ fn expect_failure<R: Abort + Threads + Sync>(
 ) {
     let mut packed = PackedFiles::new(alloc, 2);
     let device = Failing::new(file, 5, failing);
-    packed.add(device, 1).expect(rt, "memory for a packed file");
+    let pieces = packed.add(device, 1).expect(rt, "memory for a packed file");
     if is_before {
         packed.unpack(rt, &NOT_BEGUN);
     }
-    let mut reader = PackedReader::new(alloc, &packed, 0, BEGUN);
+    let mut reader = PackedReader::new(alloc, &packed, pieces, BEGUN);
     for _ in 0..2u32 {
         let read = read_all(rt, alloc, &mut reader);
         assert!(rt; read.error == Some(ErrorKind::TimedOut));
@@ -166,11 +173,11 @@ fn what_fails_before_it_is_read_fails_where_it_is(rt: HostRuntime) {
         .get(..40)
         .expect(&rt, "a file of forty bytes");
     let device = Failing::new(front, 5, 0);
-    packed
+    let pieces = packed
         .add(device, 1)
         .expect(&rt, "memory for a packed file");
     packed.unpack(&rt, &NOT_BEGUN);
-    let mut reader = PackedReader::new(alloc, &packed, 0, BEGUN);
+    let mut reader = PackedReader::new(alloc, &packed, pieces, BEGUN);
     let read = read_all(&rt, alloc, &mut reader);
     assert!(rt; read.error.is_none());
     let fault = reader.fault().expect(&rt, "a fault");

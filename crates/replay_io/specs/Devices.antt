@@ -1,5 +1,6 @@
 -- What the program's own readers give and its own writer holds.
 use Rattle.std.specs.Prelude.{⊤, ℕ, List, Option, None}
+use Rattle.packed_io.specs.Ahead.{reader_remaining}
 use Rattle.packed_io.specs.Reading.{unpacked_remaining}
 use Rattle.run_io.specs.Headers.{headed_contents}
 use Rattle.replay_io.specs.declared.input.Contents.{Contents}
@@ -7,10 +8,10 @@ use Rattle.replay_io.specs.declared.input.Contents.TheVariants.{Here, Ahead}
 use Rattle.replay_io.specs.declared.input.Dump.{Dump}
 use Rattle.replay_io.specs.declared.output.Report.{Report}
 
--- nothing is known of the bytes of a packed file, whoever unpacks it
+-- the bytes that a dump will give, where they are known, in whichever thread it is unpacked
 abbrev pub contents_remaining : {D : Type 0} → (D → Option (List ℕ)) → Contents D → Option (List ℕ)
 contents_remaining remaining (Here unpacked) = unpacked_remaining remaining unpacked
-contents_remaining remaining (Ahead form reader) = None
+contents_remaining remaining (Ahead form reader) = reader_remaining remaining reader
 
 -- other threads may unpack it
 abbrev pub AreContentsAhead : {D : Type 0} → Contents D → Type 0
@@ -20,8 +21,8 @@ AreContentsAhead (Ahead form reader) = ⊤
 abbrev pub dump_contents : {D : Type 0} → Dump D → Contents D
 dump_contents dump = dump.contents
 
--- what is still to be read of a dump's device, with what was read of it and not yet given; of a packed one nothing is
--- known
+-- what is still to be read of a dump's device, with what was read of it and not yet given; of a packed one what is left
+-- of that to which it unpacks
 abbrev pub dump_remaining : {D : Type 0} → (D → Option (List ℕ)) → Dump D → Option (List ℕ)
 dump_remaining remaining dump = contents_remaining remaining (dump_contents dump)
 

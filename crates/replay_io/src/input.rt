@@ -4,6 +4,7 @@ ghost use Rattle.std.specs.Prelude.{◌≡◌, ◌≤◌, length, take};
 ghost use Rattle.std.specs.Io.{ReadsAtMost};
 ghost use Rattle.std.specs.Io.KnownBytes.{Consumes, ReadConsumes};
 ghost use Rattle.packed_io.specs.Formats.{told_of};
+ghost use Rattle.packed_io.specs.Pieces.{pieces_remaining};
 ghost use Rattle.replay_io.specs.Devices.{AreContentsAhead, contents_remaining, dump_contents, dump_remaining};
 
 use crate::counts::Counts;
@@ -13,7 +14,7 @@ use crate::progress::{Board, LOOK, ReadSoFar};
 use bgp_prefix::Memory;
 use command_line::{AddressFamily, FirstBytes, Kind, Records};
 use mrt_frame::Counted;
-use packed_io::{Format, PackedFault, PackedFiles, PackedReader, Unpacked};
+use packed_io::{Format, PackedFault, PackedFiles, PackedReader, Pieces, Unpacked};
 use std::io::{self, Read};
 
 /// How many bytes four blocks of bzip2 have, packed, more or less.
@@ -77,7 +78,7 @@ impl Watched<'_> {
 
 /// Where the bytes of a dump come from.
 #[derive(Drop)]
-enum Contents<'a, D> {
+enum Contents<'a, D: Read> {
     /// They are unpacked where they are read, if they are packed.
     Here(Unpacked<D>),
     /// They are packed so, and other threads may unpack them before they are read.
@@ -133,7 +134,7 @@ impl<D: Read + Drop> Read for Contents<'_, D> {
 /// A dump that is read from a device, and unpacked if its first bytes are those of gzip or bzip2. Memory for it exists
 /// only while it is being read, and it is closed at its end.
 #[derive(Drop)]
-pub struct Dump<'a, D> {
+pub struct Dump<'a, D: Read> {
     name: &'a str,
     /// From 1.
     number: usize,
@@ -157,6 +158,22 @@ pub struct Dump<'a, D> {
 pub type Input<'a, 'f> = Counted<Dump<'a, Device<'f>>>;
 
 impl<'a, D: Read + Drop> Dump<'a, D> {
+    /// A dump in this form that other threads may unpack before it is read.
+    fn ahead(
+        rt: &HostRuntime,
+        name: &'a str,
+        number: usize,
+        format: Format,
+        packed: (&'a PackedFiles<D>, Pieces<D>),
+        watched: Watched<'a>,
+    ) -> Dump<'a, D>
+        ensures { dump_remaining D.remaining result ≡ pieces_remaining D.remaining packed.entry.1 }
+    {
+        let (files, pieces) = packed;
+        let reader = PackedReader::new(rt.alloc(), files, pieces, Naps::new(rt, watched.files));
+        Dump::new(rt, name, number, Contents::Ahead(format, reader), watched)
+    }
+
     /// A dump that is unpacked where it is read, if it is packed.
     fn here(
         rt: &HostRuntime,
@@ -345,8 +362,8 @@ impl<D: Read + Drop> Read for Dump<'_, D> {
 }
 
 impl<'a, D: Read + Drop> Dump<'a, D> {
-    /// What is known of the bytes to come: what wasn't given yet of a block, and what is still to be read of the
-    /// device; nothing of a packed one.
+    /// What is known of the bytes to come: of a file that is read as it is what wasn't given yet of a block, and what is
+    /// still to be read of the device; of a packed one what is left of that to which it unpacks, in whichever thread.
     pub fn gives_its_bytes(&self)
         ensures { ⟦<Dump<'a, D> as Read>⟧.remaining self.now ≡ dump_remaining D.remaining self.now }
     {}
@@ -362,41 +379,49 @@ fn jobs_of(format: Format, size: u64) -> usize {
     }
 }
 
+/// The packed files of a run, and the pieces of each for who reads it.
+pub type PackedAhead<D> = (PackedFiles<D>, Vec<Pieces<D>>);
+
 /// Returns the packed files among these, which so many threads may unpack before they are read.
 pub fn packed_files_of<'f>(
     rt: &HostRuntime,
     names: &'f [String],
     files: &'f Files,
     threads: usize,
-) -> Result<PackedFiles<Device<'f>>, Memory> {
+) -> Result<PackedAhead<Device<'f>>, Memory> {
     let mut packed = PackedFiles::new(rt.alloc(), threads);
+    let mut pieces = Vec::new(rt.alloc());
     for (i, name) in names.iter().enumerate() {
         if let Some(format) = files.packed_as(i) {
             let jobs = jobs_of(format, files.size(i).unwrap_or(0));
-            packed.add(Device::new(rt, files, i, name.as_str()), jobs)?;
+            pieces.push(packed.add(Device::new(rt, files, i, name.as_str()), jobs)?)?;
         }
     }
-    Ok(packed)
+    Ok((packed, pieces))
 }
 
-/// Makes the dumps of these files, which were opened. Those that threads may unpack are given beside, in this order.
+/// Makes the dumps of these files, which were opened. Those that threads may unpack are given beside, with the pieces
+/// of each, in this order.
 pub fn inputs_of<'a, 'f: 'a>(
     rt: &HostRuntime,
     names: &'f [String],
     files: &'f Files,
     packed: &'a PackedFiles<Device<'f>>,
+    pieces: Vec<Pieces<Device<'f>>>,
     watched: Watched<'a>,
 ) -> Result<Vec<Input<'a, 'f>>, Memory> {
     let mut inputs = Vec::new(rt.alloc());
-    let mut place = 0usize;
+    let mut pieces = pieces.into_iter();
     for (i, name) in names.iter().enumerate() {
         let name = name.as_str();
         let number = i.saturating_add(1);
-        let dump = match files.packed_as(i) {
-            Some(format) => {
-                let reader = PackedReader::new(rt.alloc(), packed, place, Naps::new(rt, files));
-                place = place.saturating_add(1);
-                Dump::new(rt, name, number, Contents::Ahead(format, reader), watched)
+        let ahead = match files.packed_as(i) {
+            Some(format) => pieces.next().map(|pieces| (format, pieces)),
+            None => None,
+        };
+        let dump = match ahead {
+            Some((format, pieces)) => {
+                Dump::ahead(rt, name, number, format, (packed, pieces), watched)
             }
             None => Dump::here(rt, name, number, Device::new(rt, files, i, name), watched),
         };
