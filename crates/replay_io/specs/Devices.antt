@@ -3,10 +3,20 @@ use Rattle.std.specs.Prelude.{⊤, ℕ, List, Option, None}
 use Rattle.packed_io.specs.Ahead.{reader_remaining}
 use Rattle.packed_io.specs.Reading.{unpacked_remaining}
 use Rattle.run_io.specs.Headers.{headed_contents}
+use Rattle.replay_io.specs.declared.files.Access.{Access}
+use Rattle.replay_io.specs.declared.files.Access.TheVariants.{Closed, Regular, Other, Standard, Left}
 use Rattle.replay_io.specs.declared.input.Contents.{Contents}
 use Rattle.replay_io.specs.declared.input.Contents.TheVariants.{Here, Ahead}
 use Rattle.replay_io.specs.declared.input.Dump.{Dump}
 use Rattle.replay_io.specs.declared.output.Report.{Report}
+
+-- a file that is read from somewhere
+abbrev pub IsOpen : Access → Type 0
+IsOpen Closed = ⊥
+IsOpen (Regular file) = ⊤
+IsOpen (Other file) = ⊤
+IsOpen (Standard input) = ⊤
+IsOpen Left = ⊥
 
 -- the bytes that a dump will give, where they are known, in whichever thread it is unpacked
 abbrev pub contents_remaining : {D : Type 0} → (D → Option (List ℕ)) → Contents D → Option (List ℕ)

@@ -1,6 +1,8 @@
 //! The files of a run: opened in order before any is read, and each closed when nothing more is read of it.
 
+ghost use Rattle.std.specs.Prelude.{◌<◌, IfOk, length};
 ghost use Rattle.std.specs.Io.{ReadsAtMost};
+ghost use Rattle.replay_io.specs.Devices.{IsOpen};
 
 use packed_io::{Format, format_of};
 use std::alloc::AllocFailed;
@@ -14,6 +16,9 @@ use std::sync::atomic::{AtomicBool, AtomicUsize, Ordering};
 /// The maximum number of regular files kept open from the start until their turn comes. Pipes and the like, which can't
 /// be opened twice, are kept open regardless of their number.
 const KEPT_OPEN: usize = 16;
+
+/// The system's number of the error that a file isn't open.
+const NOT_OPEN: i32 = 9;
 
 /// Where a file is read from.
 #[derive(Drop)]
@@ -37,11 +42,13 @@ impl Access {
         Ok(())
     }
 
+    /// Reads from it. One that isn't open fails, since an end would make it an empty dump.
     fn read(&mut self, buf: &mut [u8]) -> io::Result<usize>
-        ensures { ReadsAtMost result buf.new }
+        ensures bound { ReadsAtMost result buf.new }
+        ensures open { IfOk result (λ count. IsOpen self.old) }
     {
         match self {
-            Access::Closed | Access::Left => Ok(0),
+            Access::Closed | Access::Left => Err(io::Error::from_raw_os_error(NOT_OPEN)),
             Access::Regular(file) | Access::Other(file) => file.read(buf),
             Access::Standard(input) => input.read(buf),
         }
@@ -214,11 +221,14 @@ impl Files {
         }
     }
 
+    /// Reads from the file of this index, which is reopened where it was closed. One that there isn't, that another
+    /// thread reads or of which nothing more is read fails.
     fn read(&self, rt: &HostRuntime, index: usize, name: &str, buf: &mut [u8]) -> io::Result<usize>
-        ensures { ReadsAtMost result buf.new }
+        ensures bound { ReadsAtMost result buf.new }
+        ensures there { IfOk result (λ count. index < length self.now.places.items) }
     {
         let Some(place) = self.places.get(index) else {
-            return Ok(0);
+            return Err(io::Error::from_raw_os_error(NOT_OPEN));
         };
         let Some(mut access) = place.access.try_lock() else {
             return Err(io::Error::from(ErrorKind::ResourceBusy));
