@@ -1,0 +1,6 @@
+pub mod Filters
+pub mod PeerOrder
+pub mod HeardPeers
+pub mod Narrowed
+pub mod ChosenPeers
+pub mod ChosenPrefixes
