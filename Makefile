@@ -9,7 +9,9 @@ BUILT = crates/bgp_replay/out/bgp_replay
 BINARY ?= $(PROGRAM)
 ROOT = $(DESTDIR)$(PREFIX)
 DIST ?= dist
-DOCUMENTS = README.md CHANGELOG.md LICENSE $(wildcard docs/*.md)
+DOCUMENTS = README.md CHANGELOG.md CONTRIBUTING.md LICENSE
+PAGES = $(wildcard docs/*.md docs/*.png)
+EXAMPLES = $(wildcard examples/*)
 BUILDING = tools/build.py tools/stamp.py
 SOURCES := $(shell find crates -type d \( -name out -o -name must-fail -o -name more-edits \) -prune -o -type f -print) crates.txt
 
@@ -73,9 +75,10 @@ proved: $(BINARY)
 	@said=$$('$(abspath $(BINARY))' --version) || exit 2; case $$said in *'(not proved)'*) \
 	  echo '$(BINARY) is not proved, as its --version says: it is neither installed nor packed' >&2; exit 2;; esac
 
-# Program, manual page, completions and documents, below PREFIX. DESTDIR stands before it, for packages.
+# Program, manual page, completions and documents, below PREFIX. DESTDIR stands before it, for packages. The documents lie
+# as they do here, so that the links in them work.
 install: proved
-	install -d '$(ROOT)/bin' '$(ROOT)/share/man/man1' '$(ROOT)/share/doc/bgp_replay' \
+	install -d '$(ROOT)/bin' '$(ROOT)/share/man/man1' '$(ROOT)/share/doc/bgp_replay/docs' '$(ROOT)/share/doc/bgp_replay/examples' \
 	  '$(ROOT)/share/bash-completion/completions' '$(ROOT)/share/zsh/site-functions' '$(ROOT)/share/fish/vendor_completions.d'
 	install -m 755 '$(BINARY)' '$(ROOT)/bin/bgp_replay'
 	install -m 644 man/bgp_replay.1 '$(ROOT)/share/man/man1/bgp_replay.1'
@@ -83,6 +86,8 @@ install: proved
 	install -m 644 completions/bgp_replay.zsh '$(ROOT)/share/zsh/site-functions/_bgp_replay'
 	install -m 644 completions/bgp_replay.fish '$(ROOT)/share/fish/vendor_completions.d/bgp_replay.fish'
 	install -m 644 $(DOCUMENTS) '$(ROOT)/share/doc/bgp_replay'
+	install -m 644 $(PAGES) '$(ROOT)/share/doc/bgp_replay/docs'
+	install -m 644 $(EXAMPLES) '$(ROOT)/share/doc/bgp_replay/examples'
 
 uninstall:
 	rm -f '$(ROOT)/bin/bgp_replay' '$(ROOT)/share/man/man1/bgp_replay.1' \

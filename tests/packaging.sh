@@ -17,6 +17,17 @@ has() { command -v "$1" > "$work/log" || { echo "not tried: $1 isn't installed";
 made() { make -s --no-print-directory "$@" BINARY="$program"; }
 same_report() { cmp <("$1" tables examples/sample.mrt) <("$program" tables examples/sample.mrt); }
 files_below() { (cd "$1" && find . -type f | LC_ALL=C sort); }
+documents_of() { { printf './%s\n' README.md CHANGELOG.md CONTRIBUTING.md "$@" docs/*.md docs/*.png examples/*; } | LC_ALL=C sort; } # OTHER..
+lost_links() { # DIRECTORY: each link of a page to what isn't there
+  (cd "$1" && find . -name '*.md' | while read -r page; do
+    grep -oE '\]\([^)#]+' "$page" | sed 's/^](//' | grep -v '^[a-z]*:' | while read -r target; do
+      [ -e "$(dirname "$page")/$target" ] || echo "$page: $target"
+    done
+  done)
+}
+linked() { # DIRECTORY: its pages have links, and all work
+  lost_links "$1"; [ -z "$(lost_links "$1")" ] && [ "$(cat "$1"/*.md "$1"/docs/*.md | grep -cE '\]\([^)#]')" -ge 20 ]
+}
 
 # what program, manual page, completions and CHANGELOG.md say of one another
 version=$("$program" --version | sed -n '1s/^bgp_replay //p')
@@ -51,8 +62,11 @@ for file in bin/bgp_replay share/man/man1/bgp_replay.1 share/bash-completion/com
   share/fish/vendor_completions.d/bgp_replay.fish; do
   check "$file is installed" [ -s "$root/$file" ]
 done
-for file in README.md CHANGELOG.md LICENSE docs/*.md; do check "$file is installed" cmp "$file" "$root/share/doc/bgp_replay/${file##*/}"; done
-check 'no other page is installed' [ "$(ls "$root/share/doc/bgp_replay" | wc -l)" = $(($(ls docs/*.md | wc -l) + 3)) ]
+documents=$root/share/doc/bgp_replay
+for file in $(documents_of LICENSE); do check "$file is installed" cmp "$file" "$documents/$file"; done
+check 'no other page is installed' [ "$(files_below "$documents")" = "$(documents_of LICENSE)" ]
+check 'links in pages work' linked "$documents"
+check 'a link that is lost is found' [ "$(mkdir "$work/lost" && printf '[a](docs/b.md) [c](d.md#e) [f](#g) [h](https://i.j)\n' > "$work/lost/d.md" && lost_links "$work/lost")" = './d.md: docs/b.md' ]
 check 'the program runs from there' same_report "$root/bin/bgp_replay"
 check 'the program is for all' [ "$(stat -c %a "$root/bin/bgp_replay")" = 755 ]
 check 'it needs the C library alone' [ -z "$(ldd "$root/bin/bgp_replay" | grep -vE 'linux-vdso|libc\.so|ld-linux|libpthread|libm\.so|libgcc_s|libdl|statically')" ]
@@ -124,6 +138,7 @@ mkdir "$work/open"; check 'tar opens it' tar -xzf "$work/dist/$tarball" -C "$wor
 open=$work/open/${tarball%.tar.gz}
 opened "$open/bin/bgp_replay"
 check 'it has a licence' grep -q '^MIT License' "$open/share/doc/bgp_replay/LICENSE"
+check 'links in its pages work' linked "$open/share/doc/bgp_replay"
 check 'its page is compressed' cmp <(gzip -dc "$open/share/man/man1/bgp_replay.1.gz") man/bgp_replay.1
 check 'all may read it' [ -z "$(find "$open" ! -perm -a=r)" ]
 
@@ -141,6 +156,9 @@ if has dpkg-deb; then
   documents=$work/unpacked/usr/share/doc/bgp-replay
   opened "$work/unpacked/usr/bin/bgp_replay"
   check 'its page is compressed' cmp <(gzip -dc "$work/unpacked/usr/share/man/man1/bgp_replay.1.gz") man/bgp_replay.1
+  check 'links in its pages work' linked "$documents"
+  check 'it has pages, examples and no more' [ "$(files_below "$documents")" = "$(documents_of copyright changelog.gz)" ]
+  for file in docs/USAGE.md CHANGELOG.md examples/*; do check "$file is packed" cmp "$file" "$documents/$file"; done
   check 'it says who holds the copyright' grep -q 'Ravmekos authors' "$documents/copyright"
   check 'all is of root' [ -z "$(dpkg-deb -c "$work/deb/$package" | grep -v ' root/root ')" ]
   gzip -dc "$documents/changelog.gz" > "$work/changelog"

@@ -84,7 +84,7 @@ pack_deb() {
   copyright > "$documents/copyright"
   rm "$documents/LICENSE"
   tools/debian_changelog.py CHANGELOG.md bgp-replay "$maintainer" "$SOURCE_DATE_EPOCH" > "$documents/changelog"
-  gzip -9n "$documents/changelog" "$documents/CHANGELOG.md"
+  gzip -9n "$documents/changelog" # CHANGELOG.md is a page that README.md links to
   local size; size=$(blocks "$root")
   mkdir "$root/DEBIAN"
   cat > "$root/DEBIAN/control" <<END
