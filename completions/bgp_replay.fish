@@ -28,7 +28,7 @@ complete -c bgp_replay -n $some -l attributes -x -a 'communities extended large 
 complete -c bgp_replay -n '__fish_seen_subcommand_from history' -l same -d 'list announcements of the very route that was there, too'
 complete -c bgp_replay -n $some -l header -d 'print the columns\' names first'
 complete -c bgp_replay -n $some -l summary -d 'say on standard error what was read, in lines of a key and a value'
-complete -c bgp_replay -n $some -l progress -d 'show on standard error how far the reading is'
+complete -c bgp_replay -n $some -l progress -d 'show on standard error how far the reading of all files is'
 complete -c bgp_replay -n $some -l quiet -d 'leave out the notes on standard error'
 complete -c bgp_replay -n $some -l workers -x -a '1 2 4 8 16 32 64' -d 'replay with this many threads, 1 to 64, beside which as many unpack packed dumps; with 1, one thread does all'
 complete -c bgp_replay -n $some -l ring -x -a '1 64 1024 65536' -d 'let this many messages and entries wait for each thread, 1 to 65536'

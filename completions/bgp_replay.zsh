@@ -32,7 +32,7 @@ _bgp_replay() {
         '*--attributes[keep these further attributes of routes]:LIST:(communities extended large originator clusters otc all)'
         '--header[print the columns'\'' names first]'
         '--summary[say on standard error what was read, in lines of a key and a value]'
-        '--progress[show on standard error how far the reading is]'
+        '--progress[show on standard error how far the reading of all files is]'
         '--quiet[leave out the notes on standard error]'
         '--workers[replay with this many threads, 1 to 64, beside which as many unpack packed dumps; with 1, one thread does all]:N:(1 2 4 8 16 32 64)'
         '--ring[let this many messages and entries wait for each thread, 1 to 65536]:N:(1 64 1024 65536)'

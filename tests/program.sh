@@ -673,10 +673,10 @@ slowly() { head -c 3000000 large; sleep 0.6; tail -c +3000001 large | head -c 30
 start=${EPOCHREALTIME//[!0-9]/}; slowly | ./bgp_replay churn --progress - > out 2> said; status=$?; micros=$((${EPOCHREALTIME//[!0-9]/} - start))
 holds '--progress: its last line is cleared' "$(tail -c 1 said | od -An -tx1)" ' 0d'
 tr '\r' '\n' < said > lines
-if grep -qE '^standard input \(1 of 1\): [0-9]+ MB, [0-9]+ MB/s, 0 routes *$' lines; then right; else wrong "--progress: $(head -n 2 lines | tail -n 1)"; fi
+if grep -qE '^[0-9]+ MB, standard input \(1 of 1\), [0-9]+ MB/s, 0 routes *$' lines; then right; else wrong "--progress: $(head -n 2 lines | tail -n 1)"; fi
 [ "$(grep -c 'MB/s' lines)" -le $((micros / 250000 + 1)) ] && right || wrong "--progress: $(grep -c 'MB/s' lines) lines in $micros microseconds"
 holds '--progress: blanks at last' "$(tail -n 1 lines | tr -d ' ')" ''
-tr -d '\r' < lines > said; grep -vE '^standard input \(1 of 1\): [0-9]+ MB, [0-9]+ MB/s, [0-9]+ routes *$|^ *$' said > others; : > said; judge '--progress' 0 '' nothing $status
+tr -d '\r' < lines > said; grep -vE '^[0-9]+ MB, standard input \(1 of 1\), [0-9]+ MB/s, [0-9]+ routes *$|^ *$' said > others; : > said; judge '--progress' 0 '' nothing $status
 holds '--progress: nothing else' "$(wc -c < others)" 0
 [ "$(widest < lines)" -lt 80 ] && right || wrong "--progress: a line of $(widest < lines) columns"
 for width in 30 12; do
@@ -689,6 +689,20 @@ for pause in 0.6 2 5; do # routes are counted at the end of the first round, of 
   routes=$(grep -oE '[0-9]+ routes' lines | sort -u | tail -n 1); [ "$routes" != "$(wc -l < whole-tables) routes" ] || break
 done
 holds '--progress: routes' "$routes" "$(wc -l < whole-tables) routes"
+shares() { # N: of each line of one of N files of one size, whether its share is that of all of them, and none goes back
+  sed -nE 's/^([0-9]+) %, many \(([0-9]+) of '$1'\), [0-9]+ MB\/s, [0-9]+ routes *$/\1 \2/p' lines |
+    awk -v files=$1 '$1 < int(($2 - 1) * 100 / files) || $1 > int($2 * 100 / files) || $1 < before { wrong++ } { before = $1; last = $2 } END { print NR, wrong + 0, last + 0 }'
+}
+for files in 8 32 128; do # so many that a line is of a file behind the first
+  mapfile -t names < <(yes many | head -n $files); ./bgp_replay churn --workers 1 --quiet --progress "${names[@]}" 2>&1 > out | tr '\r' '\n' > lines
+  read -r count others last < <(shares $files); [ $count -lt 2 ] || [ $last -lt 2 ] || break
+done
+holds '--progress: the share is that of all files' "$others" 0
+[ $count -ge 2 ] && [ $last -ge 2 ] && right || wrong "--progress of $files files: $count lines, the last of file $last"
+holds '--progress: each line of several files' "$(grep -vcE '^[0-9]+ %, many \([0-9]+ of '$files'\), [0-9]+ MB/s, [0-9]+ routes *$|^ *$' lines)" 0
+slowly | ./bgp_replay churn --progress many - 2>&1 > out | tr '\r' '\n' > lines
+read_of_all=$(sed -nE 's/^([0-9]+) MB, standard input \(2 of 2\), .*/\1/p' lines | sort -n | head -n 1)
+[ "${read_of_all:-0}" -ge $(($(stat -L -c %s many) / 1000000)) ] && right || wrong "--progress of a file and a pipe: ${read_of_all:-no} MB"
 ./bgp_replay tables --progress sample > out 2> said; judge '--progress of a small file' 0 '' whole-tables $?
 ./bgp_replay tables --progress 'cut' > out 2> said; judge '--progress of damage' 1 'damaged: 1' something $?
 

@@ -218,7 +218,7 @@ pub static OPTIONS: [OptionRow; 20] = [
         offered: "",
         commands: "",
         is_required: false,
-        meaning: "Show on standard error how far the reading is",
+        meaning: "Show on standard error how far the reading of all files is",
     },
     OptionRow {
         name: "quiet",

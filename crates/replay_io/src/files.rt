@@ -61,6 +61,8 @@ struct Place {
     access: Mutex<Access>,
     /// Its size in bytes, if it is a regular file.
     size: Option<u64>,
+    /// How many bytes the files before it have, if all of them are regular files, else 0.
+    before: u64,
     /// Its form, if it is a regular file of which that is asked.
     format: Format,
 }
@@ -111,6 +113,7 @@ fn open(rt: &HostRuntime, name: &str, opening: Opening) -> io::Result<Place> {
         return Ok(Place {
             access: Mutex::new(Access::Standard(rt.stdin())),
             size: None,
+            before: 0,
             format: Format::Plain,
         });
     }
@@ -131,6 +134,7 @@ fn open(rt: &HostRuntime, name: &str, opening: Opening) -> io::Result<Place> {
     Ok(Place {
         access: Mutex::new(access),
         size,
+        before: 0,
         format,
     })
 }
@@ -140,6 +144,8 @@ fn open(rt: &HostRuntime, name: &str, opening: Opening) -> io::Result<Place> {
 #[derive(Drop)]
 pub struct Files {
     places: Vec<Place>,
+    /// How many bytes they have together, if all of them are regular files.
+    size: Option<u64>,
     /// The index of the file that is read, from 0. Nothing more is read of those before it.
     current: AtomicUsize,
     has_begun: AtomicBool,
@@ -151,6 +157,7 @@ impl Files {
     pub fn open(rt: &HostRuntime, names: &[String], asks_format: bool) -> Result<Files, OpenError> {
         let mut files = Files {
             places: Vec::new(rt.alloc()),
+            size: Some(0),
             current: AtomicUsize::new(0),
             has_begun: AtomicBool::new(false),
         };
@@ -168,11 +175,21 @@ impl Files {
                 opened = open(rt, name.as_str(), opening);
             }
             match opened {
-                Ok(place) => files.places.push(place)?,
+                Ok(place) => files.add(place)?,
                 Err(error) => return Err(OpenError::File(i.saturating_add(1), error)),
             }
         }
         Ok(files)
+    }
+
+    /// Adds a file behind the others.
+    fn add(&mut self, mut place: Place) -> Result<(), AllocFailed<Place>> {
+        place.before = self.size.unwrap_or(0);
+        self.size = match (self.size, place.size) {
+            (Some(before), Some(size)) => Some(before.saturating_add(size)),
+            _ => None,
+        };
+        self.places.push(place)
     }
 
     /// Closes all that can be reopened.
@@ -188,6 +205,15 @@ impl Files {
     /// The size of the file of this index in bytes, if it is a regular file.
     pub fn size(&self, index: usize) -> Option<u64> {
         self.places.get(index)?.size
+    }
+
+    /// How many bytes of all files have been read where the files before this index and so many bytes of its own file
+    /// have, and how many all have, if all are regular files.
+    pub fn read_of_all(&self, index: usize, bytes: u64) -> Option<(u64, u64)> {
+        let all = self.size?;
+        let place = self.places.get(index)?;
+        let read = bytes.min(place.size?);
+        Some((place.before.saturating_add(read), all))
     }
 
     /// The form of the file of this index, if it is packed, regular and was looked at.

@@ -286,13 +286,13 @@ impl<'a, D: Read + Drop> Dump<'a, D> {
             Some((_, packed_bytes)) => packed_bytes,
             None => self.bytes,
         };
+        let index = self.number.saturating_sub(1);
         if let Some(watch) = &mut self.watch {
             if watch.take(bytes) {
                 watch.tell(ReadSoFar {
                     name: self.name,
                     number: self.number,
-                    bytes: of_file,
-                    size: self.size,
+                    of_all: self.files.read_of_all(index, of_file),
                 });
             }
         }

@@ -56,16 +56,14 @@ pub struct Board {
     room: usize,
 }
 
-/// How far a dump has been read.
+/// Which dump is read, and how far the reading of all is.
 #[derive(Clone, Copy)]
 pub struct ReadSoFar<'a> {
     pub name: &'a str,
     /// From 1.
     pub number: usize,
-    /// How many of its bytes have been read.
-    pub bytes: u64,
-    /// Its size in bytes, if known.
-    pub size: Option<u64>,
+    /// How many bytes of all dumps have been read, and how many there are, if the sizes of all are known.
+    pub of_all: Option<(u64, u64)>,
 }
 
 impl Board {
@@ -134,13 +132,15 @@ impl Board {
         let name = shown_name(alloc, dump.name)?;
         let number = dump.number;
         let files = self.files;
-        let share = share_of(alloc, dump)?;
+        let bytes = self.bytes.load(Ordering::Relaxed);
+        let share = share_of(alloc, dump.of_all, bytes)?;
         let routes = self.routes.load(Ordering::Relaxed);
         // Bytes per microsecond are megabytes per second.
         let micros = millis.saturating_mul(1000).max(1);
-        let speed = self.bytes.load(Ordering::Relaxed) / micros;
+        let speed = bytes / micros;
+        // The share is that of all dumps, so it stands before the name of one.
         format!(in alloc;
-            "{name} ({number} of {files}): {share}, {speed} MB/s, {routes} routes"
+            "{share}, {name} ({number} of {files}), {speed} MB/s, {routes} routes"
         ).ok()
     }
 }
@@ -256,15 +256,15 @@ fn shown_name(alloc: Global, name: &str) -> Option<String> {
     Some(shown)
 }
 
-/// Returns how much of a dump has been read: in percent if its size is known, otherwise in megabytes.
-fn share_of(alloc: Global, dump: ReadSoFar<'_>) -> Option<String> {
-    match dump.size {
-        Some(size) if size > 0 => {
-            let percent = (dump.bytes.saturating_mul(100) / size).min(100);
+/// Returns how much of all dumps has been read: in percent if their sizes are known, otherwise in megabytes, unpacked.
+fn share_of(alloc: Global, of_all: Option<(u64, u64)>, bytes: u64) -> Option<String> {
+    match of_all {
+        Some((read, size)) if size > 0 => {
+            let percent = (read.saturating_mul(100) / size).min(100);
             format!(in alloc; "{percent} %").ok()
         }
         _ => {
-            let megabytes = dump.bytes / 1_000_000;
+            let megabytes = bytes / 1_000_000;
             format!(in alloc; "{megabytes} MB").ok()
         }
     }
