@@ -656,6 +656,31 @@ for text in 2001:db8::1 :: ::ffff:10.0.0.1; do
   for words in '' '--family ipv4'; do refused "bad address: $text" match $words --address $text nested; done
 done
 
+# what is of the other family names the option that reads it, in the last line; what is of none names none
+hinted() { # FAMILY WHAT WORDS..
+  local family=$1 what=$2 other=6 name; shift 2
+  [ $family = ipv4 ] || other=4
+  name="  it looks like an IPv$other $what: --family ipv$other reads those, and replays IPv$other routes"
+  [ $what != none ] || name=none
+  ./bgp_replay "$@" --family $family nested > out 2> said < nothing
+  if [ $? = 2 ] && ! [ -s out ] && [ "$(grep 'it looks like' said || echo none)" = "$name" ] &&
+    { [ $what = none ] || [ "$(tail -n 1 said)" = "$name" ]; }; then right
+  else wrong "$* --family $family: $(tail -n 1 said)"; fi
+}
+for prefix in 2001:db8::/32 2001:db8::/32+ ::/0- 2001:db8::1/32 ::/129 2001:db8::/soon; do hinted ipv4 prefix tables --prefix $prefix; done
+for prefix in 192.0.2.0/24 192.0.2.0/24+ 0.0.0.0/0- 192.0.2.1/24 10.0.0.0/; do hinted ipv6 prefix tables --prefix $prefix; done
+for prefix in ::1 ::1+ 2001:db8::1-; do hinted ipv4 address tables --prefix $prefix; done
+hinted ipv6 address tables --prefix 192.0.2.7-
+hinted ipv4 address match --address 2001:db8::1
+hinted ipv6 address match --address 192.0.2.1
+hinted ipv4 prefix tables --prefixes list6
+hinted ipv6 prefix tables --prefixes list4
+for prefix in 192.0.2/24 soon /32 ::ffff:192.0.2.0/120 fe80::%eth0/64 192.0.2.0/33; do hinted ipv4 none tables --prefix "$prefix"; done
+for prefix in 2001:db8/32 soon /24 192.0.02.0/24 ::/129; do hinted ipv6 none tables --prefix "$prefix"; done
+for address in 192.0.2 2001:db8::/32 ::1+ soon; do hinted ipv4 none match --address "$address"; done
+for address in 2001:db8 192.0.2.0/24 192.0.2.1-; do hinted ipv6 none match --address "$address"; done
+hinted ipv6 none tables --prefixes list_bad
+
 # ---- the option: its default, the last one, and what it refuses
 for report in tables visibility origins seen churn peers history faults 'match --address 17.150.214.7' \
   'tables --prefix 0.0.0.0/0+' 'churn --summary'; do

@@ -37,7 +37,8 @@ use bgp_prefix::{Ipv6, Memory, Prefix};
 use bgp_update::Unicast;
 use chunked_map::ChunkedMap;
 use command_line::{
-    AddressFamily, AddressText, Asked, Job, Usage, read_words, standard_input_fault, wrapped,
+    AddressFamily, AddressText, Asked, Job, Usage, hint_of_address, read_words,
+    standard_input_fault, wrapped,
 };
 use lane_deal::{ByTurns, Plan};
 use lists::{listed_dumps, listed_prefixes};
@@ -260,8 +261,11 @@ fn explain(rt: &HostRuntime, usage: &Usage) -> u8 {
             let _ = eprint!(rt; "{text}");
             REFUSED
         }
-        Usage::Address(_, text) => {
+        Usage::Address(family, text) => {
             let _ = eprintln!(rt; "bad address: {text}");
+            if let Ok(hint) = hint_of_address(rt.alloc(), *family, text.as_str()) {
+                let _ = eprint!(rt; "{hint}");
+            }
             REFUSED
         }
         Usage::Memory => without_memory(rt, "the words were read"),

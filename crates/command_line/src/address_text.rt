@@ -9,6 +9,7 @@ use crate::address_family::AddressFamily;
 use crate::ipv6::ipv6_in;
 use bgp_prefix::Ipv6;
 use bgp_update::Unicast;
+use std::alloc::{AllocError, Global};
 
 /// Messages about texts that are no prefix of a family.
 #[derive(Clone, Copy)]
@@ -36,6 +37,44 @@ const IPV6_WORDS: PrefixWords = PrefixWords {
     no_address_before: "no IPv6 address stands before its '/'",
     no_length: "its length is not a number of 0 to 128",
 };
+
+/// Whether a text is an address of the family that isn't this one.
+fn is_of_other_family(family: AddressFamily, text: &[u8]) -> bool {
+    match family {
+        AddressFamily::Ipv4 => ipv6_in(text).is_some(),
+        AddressFamily::Ipv6 => address_in(text).is_some(),
+    }
+}
+
+/// Returns a line which says that something with this address looks like one of the family that isn't this one, and
+/// which option reads those. Where the text is no address of that family, the line is empty.
+pub(crate) fn hint_of(
+    alloc: Global,
+    family: AddressFamily,
+    what: &str,
+    address: &[u8],
+) -> Result<String, AllocError> {
+    if !is_of_other_family(family, address) {
+        return Ok(String::new(alloc));
+    }
+    let (name, option) = match family {
+        AddressFamily::Ipv4 => ("IPv6", "ipv6"),
+        AddressFamily::Ipv6 => ("IPv4", "ipv4"),
+    };
+    format!(in alloc;
+        "  it looks like an {name} {what}: --family {option} reads those, and replays {name} routes\n"
+    )
+}
+
+/// Returns what is said behind a text that is no address of this family: a line on the other family, if it is one of
+/// that, else nothing.
+pub fn hint_of_address(
+    alloc: Global,
+    family: AddressFamily,
+    text: &str,
+) -> Result<String, AllocError> {
+    hint_of(alloc, family, "address", text.as_bytes())
+}
 
 /// A family whose addresses are read from text, and what is said of texts that aren't read.
 pub trait AddressText: Unicast {

@@ -8,9 +8,10 @@ ghost use Rattle.command_line.specs.Choices.{IsPrefixWithin, SpellsPrefix, Spell
 ghost use Rattle.command_line.specs.Families.{SpellsIn};
 
 use crate::address::octet;
-use crate::address_text::AddressText;
+use crate::address_text::{AddressText, hint_of};
 use bgp_prefix::{Family, Prefix};
 use peer_units::{PrefixChoice, Reach};
+use std::alloc::{AllocError, Global};
 
 /// Returns the value of a prefix length: 0 to the number of bits of an address, without a leading zero.
 fn read_len<F: AddressText>(text: &[u8]) -> Option<u8>
@@ -142,5 +143,18 @@ pub fn fault_of_reach<F: AddressText>(text: &[u8]) -> &'static str {
         F::WORDS.no_length
     } else {
         "its address has bits past its length"
+    }
+}
+
+/// Returns what is said behind why a text is refused: a line on the other family, if its address is one of that, else
+/// nothing.
+pub(crate) fn hint_of_reach<F: AddressText>(
+    alloc: Global,
+    text: &[u8],
+) -> Result<String, AllocError> {
+    let (text, _) = split_reach(text);
+    match first_slash(text) {
+        Some(slash) => hint_of(alloc, F::FAMILY, "prefix", &text[..slash]),
+        None => hint_of(alloc, F::FAMILY, "address", text),
     }
 }

@@ -7,7 +7,7 @@ ghost use Rattle.command_line.specs.declared.list.ListError.TheVariants.{Memory}
 ghost use Rattle.command_line.specs.Families.{SpellsIn};
 
 use crate::address_text::AddressText;
-use crate::choice::{choice_in, fault_of_reach};
+use crate::choice::{choice_in, fault_of_reach, hint_of_reach};
 use crate::names::FileName;
 use bgp_prefix::Prefix;
 use peer_units::PrefixChoice;
@@ -152,8 +152,9 @@ pub fn fault_of_list<F: AddressText>(
     let shown = line.escape_ascii();
     let fault = fault_of_reach::<F>(line);
     let example = F::WORDS.example;
+    let hint = hint_of_reach::<F>(alloc, line)?;
     let file = FileName(name);
     format!(in alloc;
-        "error: invalid line {number} '{shown}' in '--prefixes {file}': {fault}\n  it may be {example}, {example}+ (more specifics too), {example}- (less specifics too) or an address; a line that begins with # is passed over\n"
+        "error: invalid line {number} '{shown}' in '--prefixes {file}': {fault}\n  it may be {example}, {example}+ (more specifics too), {example}- (less specifics too) or an address; a line that begins with # is passed over\n{hint}"
     )
 }

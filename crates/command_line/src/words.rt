@@ -9,7 +9,7 @@ use crate::address_family::AddressFamily;
 use crate::address_text::AddressText;
 use crate::attributes::{add_attributes, attribute_names};
 use crate::build::version_text;
-use crate::choice::{fault_of_reach, read_choice};
+use crate::choice::{fault_of_reach, hint_of_reach, read_choice};
 use crate::commands::{closings, command};
 use crate::moment::read_second;
 use crate::peers::{read_peer, read_share};
@@ -274,8 +274,9 @@ fn no_choice<F: AddressText>(alloc: Global, text: &str) -> Result<Usage, AllocEr
 {
     let fault = fault_of_reach::<F>(text.as_bytes());
     let example = F::WORDS.example;
+    let hint = hint_of_reach::<F>(alloc, text.as_bytes())?;
     Ok(Usage::Words(format!(in alloc;
-        "error: invalid value '{text}' for '--prefix <PREFIX>': {fault}\n  it may be {example}, {example}+ (more specifics too), {example}- (less specifics too) or an address\n"
+        "error: invalid value '{text}' for '--prefix <PREFIX>': {fault}\n  it may be {example}, {example}+ (more specifics too), {example}- (less specifics too) or an address\n{hint}"
     )?))
 }
 

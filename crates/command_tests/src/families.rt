@@ -2,7 +2,7 @@
 
 use crate::asked::{asked_of, ipv6_job, said_of};
 use bgp_prefix::Ipv6;
-use command_line::{AddressFamily, Asked, Usage, fault_of_list, read_choice};
+use command_line::{AddressFamily, Asked, Usage, fault_of_list, hint_of_address, read_choice};
 use peer_units::Reach;
 use report_request::{AddressForm, Request};
 use std::test::Fail;
@@ -161,15 +161,23 @@ fn what_is_wrong_is_said_by_family(rt: HostRuntime) -> Result<(), Fail> {
         ),
         (
             "tables --prefix 2001:db8::/32 x",
-            "error: invalid value '2001:db8::/32' for '--prefix <PREFIX>': no IPv4 address stands before its '/'\n  it may be 192.0.2.0/24, 192.0.2.0/24+ (more specifics too), 192.0.2.0/24- (less specifics too) or an address\n",
+            "error: invalid value '2001:db8::/32' for '--prefix <PREFIX>': no IPv4 address stands before its '/'\n  it may be 192.0.2.0/24, 192.0.2.0/24+ (more specifics too), 192.0.2.0/24- (less specifics too) or an address\n  it looks like an IPv6 prefix: --family ipv6 reads those, and replays IPv6 routes\n",
         ),
         (
             "tables --family ipv6 --prefix 192.0.2.0/24 x",
-            "error: invalid value '192.0.2.0/24' for '--prefix <PREFIX>': no IPv6 address stands before its '/'\n  it may be 2001:db8::/32, 2001:db8::/32+ (more specifics too), 2001:db8::/32- (less specifics too) or an address\n",
+            "error: invalid value '192.0.2.0/24' for '--prefix <PREFIX>': no IPv6 address stands before its '/'\n  it may be 2001:db8::/32, 2001:db8::/32+ (more specifics too), 2001:db8::/32- (less specifics too) or an address\n  it looks like an IPv4 prefix: --family ipv4 reads those, and replays IPv4 routes\n",
         ),
         (
             "tables --family ipv6 --prefix 192.0.2.7 x",
-            "error: invalid value '192.0.2.7' for '--prefix <PREFIX>': it is no IPv6 address\n  it may be 2001:db8::/32, 2001:db8::/32+ (more specifics too), 2001:db8::/32- (less specifics too) or an address\n",
+            "error: invalid value '192.0.2.7' for '--prefix <PREFIX>': it is no IPv6 address\n  it may be 2001:db8::/32, 2001:db8::/32+ (more specifics too), 2001:db8::/32- (less specifics too) or an address\n  it looks like an IPv4 address: --family ipv4 reads those, and replays IPv4 routes\n",
+        ),
+        (
+            "tables --prefix ::1/129+ x",
+            "error: invalid value '::1/129+' for '--prefix <PREFIX>': no IPv4 address stands before its '/'\n  it may be 192.0.2.0/24, 192.0.2.0/24+ (more specifics too), 192.0.2.0/24- (less specifics too) or an address\n  it looks like an IPv6 prefix: --family ipv6 reads those, and replays IPv6 routes\n",
+        ),
+        (
+            "tables --family ipv6 --prefix 192.0.2/24 x",
+            "error: invalid value '192.0.2/24' for '--prefix <PREFIX>': no IPv6 address stands before its '/'\n  it may be 2001:db8::/32, 2001:db8::/32+ (more specifics too), 2001:db8::/32- (less specifics too) or an address\n",
         ),
         (
             "tables --family ipv6 --prefix ::/129 x",
@@ -183,12 +191,40 @@ fn what_is_wrong_is_said_by_family(rt: HostRuntime) -> Result<(), Fail> {
     let said = fault_of_list::<Ipv6>(alloc, "list", text, 2)?;
     assert!(rt;
         said.as_str()
-            == "error: invalid line 2 '10.0.0.0/8' in '--prefixes list': no IPv6 address stands before its '/'\n  it may be 2001:db8::/32, 2001:db8::/32+ (more specifics too), 2001:db8::/32- (less specifics too) or an address; a line that begins with # is passed over\n"
+            == "error: invalid line 2 '10.0.0.0/8' in '--prefixes list': no IPv6 address stands before its '/'\n  it may be 2001:db8::/32, 2001:db8::/32+ (more specifics too), 2001:db8::/32- (less specifics too) or an address; a line that begins with # is passed over\n  it looks like an IPv4 prefix: --family ipv4 reads those, and replays IPv4 routes\n"
     );
     let said = fault_of_list::<u32>(alloc, "list", text, 1)?;
     assert!(rt;
         said.as_str()
-            == "error: invalid line 1 '::1' in '--prefixes list': it is no IPv4 address\n  it may be 192.0.2.0/24, 192.0.2.0/24+ (more specifics too), 192.0.2.0/24- (less specifics too) or an address; a line that begins with # is passed over\n"
+            == "error: invalid line 1 '::1' in '--prefixes list': it is no IPv4 address\n  it may be 192.0.2.0/24, 192.0.2.0/24+ (more specifics too), 192.0.2.0/24- (less specifics too) or an address; a line that begins with # is passed over\n  it looks like an IPv6 address: --family ipv6 reads those, and replays IPv6 routes\n"
     );
+    Ok(())
+}
+
+#[test]
+fn an_address_of_the_other_family_names_its_option(rt: HostRuntime) -> Result<(), Fail> {
+    let alloc = rt.alloc();
+    let ipv4 = AddressFamily::Ipv4;
+    let ipv6 = AddressFamily::Ipv6;
+    let of_ipv6 =
+        "  it looks like an IPv6 address: --family ipv6 reads those, and replays IPv6 routes\n";
+    let of_ipv4 =
+        "  it looks like an IPv4 address: --family ipv4 reads those, and replays IPv4 routes\n";
+    for (family, text, expected) in [
+        (ipv4, "2001:db8::1", of_ipv6),
+        (ipv4, "::", of_ipv6),
+        (ipv4, "2001:db8::/32", ""),
+        (ipv4, "2001:db8::1+", ""),
+        (ipv4, "::ffff:192.0.2.1", ""),
+        (ipv4, "192.0.2", ""),
+        (ipv6, "192.0.2.1", of_ipv4),
+        (ipv6, "192.0.2.1/32", ""),
+        (ipv6, "192.0.2.01", ""),
+        (ipv6, "2001:db8", ""),
+        (ipv6, "", ""),
+    ] {
+        let hint = hint_of_address(alloc, family, text)?;
+        assert!(rt; hint.as_str() == expected, "{text}: {hint}");
+    }
     Ok(())
 }
