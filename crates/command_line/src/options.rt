@@ -342,7 +342,7 @@ const PEERS_COLUMNS: &[ColumnRow] = &[
     PEER,
     ColumnRow(
         "state",
-        "`up`, or `down` where the last recorded change of the session's state led out of Established",
+        "`up`, or `down` where the last recorded change of the session's state led to another state than Established; with --states established, where the last one into or out of Established led out of it",
     ),
     ColumnRow("routes", "how many routes its table has"),
     ColumnRow(
@@ -411,7 +411,7 @@ pub static COMMANDS: [CommandRow; 9] = [
         name: "tables",
         meaning: "Print every route of every peer",
         columns: ROUTE_COLUMNS,
-        order: "Peers come in the order in which the dumps first name them, and a peer's routes by prefix.",
+        order: "Peers come in the order in which the dumps first name them, and a peer's routes by prefix. Communities and five more attributes have columns with --attributes alone.",
         examples: &[
             "tables --header rib.mrt updates.mrt",
             "tables --until 2024-01-01T01:00:00Z rib.mrt updates.mrt",
@@ -473,7 +473,7 @@ pub static COMMANDS: [CommandRow; 9] = [
         name: "match",
         meaning: "Print each peer's routes of the longest prefix that contains an address",
         columns: ROUTE_COLUMNS,
-        order: "Peers come in the order in which the dumps first name them; a peer without such a route has no line.",
+        order: "Peers come in the order in which the dumps first name them; a peer without such a route has no line. Communities and five more attributes have columns with --attributes alone.",
         examples: &[
             "match --address 192.0.2.1 rib.mrt",
             "match --address 192.0.2.1 --until 1704070800 rib.mrt updates.mrt",
@@ -483,7 +483,7 @@ pub static COMMANDS: [CommandRow; 9] = [
         name: "history",
         meaning: "List what happened to each prefix, when and at which peer",
         columns: HISTORY_COLUMNS,
-        order: "Lines come as the dumps record it, and those of one message as it changes the table: withdrawals first.",
+        order: "Lines come as the dumps record it, and those of one message as it changes the table: withdrawals first. Communities and five more attributes have columns with --attributes alone.",
         examples: &[
             "history --prefix 192.0.2.0/24+ rib.mrt updates.mrt",
             "history --prefix 192.0.2.0/24 --since 2024-01-01T01:00:00Z rib.mrt updates.mrt",
