@@ -83,14 +83,53 @@ fi
 if has bzip2; then
   bzip2 -9c updates.mrt > updates.bz2; size=$(wc -c < updates.bz2)
   head -c $((size - 1)) updates.bz2 > short.bz2
-  "$program" tables short.bz2 sample.mrt > out 2> said; [ $? = 1 ] && grep -q '^  short.bz2: bzip2 data, offset [0-9]*: the data ends early$' said && right || wrong "bzip2 data that ends early: $(head -c 300 said)"
+  "$program" tables short.bz2 sample.mrt > out 2> said; [ $? = 1 ] && grep -q '^  short.bz2: bzip2 data, offset [0-9]*: the data ends early; what is cut off begins there$' said && right || wrong "bzip2 data that ends early: $(head -c 300 said)"
   { head -c 12 updates.bz2; printf '\0'; tail -c +14 updates.bz2; } > checksum.bz2
-  "$program" tables checksum.bz2 sample.mrt > out 2> said; [ $? = 1 ] && grep -q "^  checksum.bz2: bzip2 data, offset 4: a block's checksum disagrees$" said && cmp -s out sample-tables && right || wrong "a block whose checksum disagrees: $(head -c 300 said)"
+  "$program" tables checksum.bz2 sample.mrt > out 2> said; [ $? = 1 ] && grep -q "^  checksum.bz2: bzip2 data, offset 4: a block's checksum disagrees; the block begins there$" said && cmp -s out sample-tables && right || wrong "a block whose checksum disagrees: $(head -c 300 said)"
   { cat updates.bz2; echo more; } > trailing.bz2
   told 'bytes behind the last stream' 1 "  trailing.bz2: bzip2 data, offset $size: other data follows the last stream" tables trailing.bz2
   : | bzip2 -c > empty.bz2; for i in {1..2000}; do cat empty.bz2; done > many.bz2; cat updates.bz2 >> many.bz2; same 'two thousand empty streams' updates-tables tables many.bz2
   head -c 300000001 /dev/zero | bzip2 -9c > bomb.bz2; ( ulimit -v 400000; exec "$program" faults --workers 1 bomb.bz2 > out 2> said )
   [ $? = 1 ] && [ "$(< out)" = '1|300000000|-|1|ShortHeader' ] && right || wrong "a bomb of bzip2: $(head -c 200 said)"
+fi
+
+# each block and each stream's end is named by the byte that its first bit is in, wherever it is damaged or cut
+cat > places.py <<'END'
+import bz2, subprocess, sys
+program, plain = sys.argv[1:]
+dump = open(plain, "rb").read()
+data = bz2.compress(dump, 1) + bz2.compress(dump[:250000], 1)
+bits = bin(int.from_bytes(data, "big"))[2:].zfill(8 * len(data))
+def places(mark): # the bytes that these 48 bits begin in
+    pattern, found, at = bin(mark)[2:].zfill(48), [], -1
+    while (at := bits.find(pattern, at + 1)) >= 0: found.append(at // 8)
+    return found
+blocks, ends = places(0x314159265359), places(0x177245385090)
+cases = []
+for at in blocks: # its checksum, and its codes
+    behind = min(place for place in blocks + ends if place > at)
+    cases += [(at, byte, "; the block begins there") for byte in (at + 8, (at + behind) // 2)]
+cases += [(at, at + 8, ": a stream's checksum disagrees; the stream's end begins there") for at in ends]
+bad = tried = 0
+def judge(name, content, at, words):
+    global bad, tried
+    for workers in ("1", "4"):
+        with open("places.bz2", "wb") as file: file.write(content)
+        done = subprocess.run([program, "faults", "--workers", workers, "places.bz2"], capture_output=True, text=True, check=False)
+        said = [line for line in done.stderr.split("\n") if line.startswith(f"  places.bz2: bzip2 data, offset {at}: ") and line.endswith(words)]
+        tried += 1
+        if done.returncode != 1 or len(said) != 1:
+            bad += 1
+            print(f"wrong: {name} by {workers} workers, not {at}{words}: {done.stderr[:300]}", file=sys.stderr)
+for at, byte, words in cases:
+    judge(f"bzip2 byte {byte}", data[:byte] + bytes([data[byte] ^ 16]) + data[byte + 1:], at, words)
+for at in blocks + ends:
+    judge(f"bzip2 cut in {at}", data[:at + 8], at, ": the data ends early; what is cut off begins there")
+if len(blocks) < 6 or len(ends) != 2: bad += 1
+print(tried - bad, bad)
+END
+if has python3; then
+  read -r good bad <<< "$(python3 places.py "$program" drawn.mrt)"; passed=$((passed + good)); failed=$((failed + bad))
 fi
 
 # by several threads all is as by one: many files of a run, some of them damaged, and long runs of one byte in little memory

@@ -1,10 +1,11 @@
 //! What the program reports on standard error. Lines after the first are indented by two spaces, and
 //! say which file and why. A failure to write them doesn't change the status.
 
+use bzip2_reader::{BlockFault, Cause};
 use command_line::{FileName, Kind, Records};
 use mrt_frame::ReplayError;
 use mrt_replay::Summary;
-use packed_io::{Effect, Format, PackedFault};
+use packed_io::{Effect, Format, PackedCause, PackedFault};
 use replay_io::{Counts, Device, Dump, FileCounts, Input, Output};
 use report_request::Request;
 use std::fmt::Display;
@@ -68,13 +69,26 @@ fn name_of(format: Format) -> &'static str {
     }
 }
 
+/// Returns what begins at the offset of a fault, where that is the first byte of what is damaged and not that of the
+/// damage: a part of bzip2's data is read whole.
+fn begins_there(cause: PackedCause) -> &'static str {
+    match cause {
+        PackedCause::Bzip2(Cause::Block(BlockFault::NoBlock)) => "",
+        PackedCause::Bzip2(Cause::Block(_)) => "; the block begins there",
+        PackedCause::Bzip2(Cause::EarlyEnd) => "; what is cut off begins there",
+        PackedCause::Bzip2(Cause::StreamChecksum) => "; the stream's end begins there",
+        _ => "",
+    }
+}
+
 /// Reports what is wrong with packed data, and where, in bytes of the compressed file.
 fn tell_packed(rt: &HostRuntime, name: &str, fault: &PackedFault) {
     let shown = FileName(name);
     let format = name_of(fault.format());
     let offset = fault.offset;
     let words = fault.words();
-    let _ = eprintln!(rt; "  {shown}: {format} data, offset {offset}: {words}");
+    let part = begins_there(fault.cause);
+    let _ = eprintln!(rt; "  {shown}: {format} data, offset {offset}: {words}{part}");
 }
 
 /// Reports where packed files ended early.
