@@ -1,5 +1,5 @@
 -- What is kept of what was kept.
-use Rattle.std.proofs.Common.{◌≡◌, ◌&&◌, Bool, true, false, cond, List, [], ◌∷◌, ◌++◌, map, refl, sym, ◌∙◌, ap}
+use Rattle.std.proofs.Common.{◌≡◌, ◌&&◌, Bool, true, false, cond, List, [], ◌∷◌, map, refl, ◌∙◌, ap}
 use Rattle.std.specs.List.{filter, filter_map}
 use Rattle.peer_units.specs.Plain.{Unit as ReplayUnit, Found}
 use Rattle.peer_units.specs.declared.unit.Found.TheVariants as found

@@ -4,3 +4,4 @@ pub mod HeardPeers
 pub mod Narrowed
 pub mod ChosenPeers
 pub mod ChosenPrefixes
+pub mod Cleared

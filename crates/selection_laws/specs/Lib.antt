@@ -1,1 +1,2 @@
 pub mod Wider
+pub mod Dumps

@@ -1,11 +1,17 @@
 //! The laws. Nothing is computed.
 
-ghost use Rattle.std.specs.Prelude.{◌≡◌, ℕ, List};
+ghost use Rattle.std.specs.Prelude.{◌≡◌, ℕ, true, List, [], ◌∷◌, ◌++◌};
 ghost use Rattle.std.specs.List.{filter};
+ghost use Rattle.mrt_frame.specs.Cuts.{cuts};
+ghost use Rattle.mrt_frame.specs.declared.cut.Cut.{Cut as AnyCut};
+ghost use Rattle.mrt_frame.specs.declared.cut.Cut.TheVariants.{Whole};
+ghost use Rattle.mrt_frame.specs.declared.cut.Record.{Record as AnyRecord};
 ghost use Rattle.mrt_body.specs.Units.{refused_of, units_of};
 ghost use Rattle.peer_units.specs.Choices.{UnitSelection};
 ghost use Rattle.peer_units.specs.Selections.{concerns, takes_peer};
 ghost use Rattle.peer_units.specs.declared.rib_rule.RibRule.TheVariants.{Add};
+ghost use Rattle.peer_units.specs.declared.unit.PeerKey.{PeerKey as AnyPeer};
+ghost use Rattle.selection_laws.specs.Dumps.{BeginWith, begins_dump, clears_before, table_of_peer, units_before};
 ghost use Rattle.selection_laws.specs.Wider.{of_all_peers, of_all_prefixes};
 
 /// The units of the chosen peers, and of a share, are those of all units whose peer is one of them, by either rule of
@@ -17,12 +23,25 @@ pub fn chosen_peers_are_of_all()
         refused_of selection files ≡ refused_of (of_all_peers selection) files }
 {}
 
-/// Where RIB dumps are added, the units under chosen prefixes are those of all units that can concern one of them. Where
-/// they replace what came before them, other peers are heard, and so others are cleared. By either rule the same records
-/// are refused.
+/// Where RIB dumps are added, the units under chosen prefixes are those of all units that can concern one of them.
+/// Where they replace what came before them, other peers are heard, and so others are cleared. By either rule the same
+/// records are refused.
 pub fn chosen_prefixes_are_of_all()
     ensures units { (selection : UnitSelection) (files : List (List ℕ)) → selection.ribs ≡ Add → units_of selection files
         ≡ filter (λ unit. concerns selection.prefixes unit.payload) (units_of (of_all_prefixes selection) files) }
     ensures refused { (selection : UnitSelection) (files : List (List ℕ)) →
         refused_of selection files ≡ refused_of (of_all_prefixes selection) files }
+{}
+
+/// Where RIB dumps replace what came before them and a record begins one, no peer has a route behind the clears that
+/// stand before the record's own units: a peer that isn't cleared gave no unit since the last dump. The units of a
+/// reading begin with those before the record and these clears.
+pub fn dumps_begin_with_empty_tables()
+    ensures reading { (selection : UnitSelection) (files : List (List ℕ)) (bytes : List ℕ) (others : List (List ℕ))
+        (earlier later : List AnyCut) (r : AnyRecord) → cuts 0 bytes ≡ earlier ++ Whole r ∷ later →
+        BeginWith (units_of selection (files ++ bytes ∷ others))
+        (units_before selection files earlier ++ clears_before selection files earlier r) }
+    ensures emptied { (selection : UnitSelection) (files : List (List ℕ)) (earlier : List AnyCut) (r : AnyRecord)
+        (q : AnyPeer) → begins_dump selection files earlier r ≡ true →
+        table_of_peer (units_before selection files earlier ++ clears_before selection files earlier r) q ≡ [] }
 {}

@@ -1,7 +1,10 @@
-//! Laws of what a selection takes of the units that files give: those of chosen peers, of a share and of chosen prefixes
-//! are those of all units.
+//! Laws of whole readings of files.
+//!
+//! - The units of chosen peers, and of a share, are those of all units, and so are those of chosen prefixes where RIB
+//!   dumps are added (`chosen_peers_are_of_all`, `chosen_prefixes_are_of_all`).
+//! - Where a RIB dump replaces what came before it, it begins with empty tables (`dumps_begin_with_empty_tables`).
 #![tactic(auto)]
 
 mod laws;
 
-pub use laws::{chosen_peers_are_of_all, chosen_prefixes_are_of_all};
+pub use laws::{chosen_peers_are_of_all, chosen_prefixes_are_of_all, dumps_begin_with_empty_tables};
