@@ -1,22 +1,19 @@
 -- The units of chosen peers are those of all units that are of one of them.
 use Rattle.std.proofs.Common.{◌≡◌, ℕ, ◌&&◌, ◌||◌, Bool, true, false, cond, List, [], ◌∷◌, ◌++◌, map, Option, None, Result, Ok, Err, refl, sym, ◌∙◌, ap, subst}
 use Rattle.std.specs.Prelude.{if◌then◌else◌}
-use Rattle.std.specs.Result.{is_ok}
 use Rattle.std.specs.List.{filter}
 use Rattle.std.proofs.lemmas.List.Elements.{filter-append, filter_agree}
 use Rattle.mrt_frame.specs.declared.fault.Fault.{Fault}
 use Rattle.mrt_frame.specs.declared.cut.Cut.{Cut}
 use Rattle.mrt_frame.specs.declared.cut.Cut.TheVariants.{Whole, Broken}
-use Rattle.peer_units.specs.Plain.{Unit as ReplayUnit, Found}
+use Rattle.peer_units.specs.Plain.{Unit as ReplayUnit}
 use Rattle.peer_units.specs.declared.unit.PeerKey.{PeerKey}
 use Rattle.peer_units.specs.Choices.{UnitSelection}
 use Rattle.peer_units.specs.Selections.{concerns, is_in_time, is_selected, takes_peer}
 use Rattle.mrt_body.specs.declared.record_place.RecordAt.{RecordAt}
 use Rattle.mrt_body.specs.declared.body_kind.BodyKind.{BodyKind}
-use Rattle.mrt_body.specs.declared.body_kind.BodyKind.TheVariants as content
-use Rattle.mrt_body.specs.RibDumps.{DumpsState, dumps_with, heard_of, may_begin, no_dumps}
-use Rattle.mrt_body.specs.RibRecords.{rib_beside}
-use Rattle.mrt_body.specs.Units.{at_record, begins, body_kind_of, clear_unit, clears_at, clears_if, dumps_after, found_at, found_of, found_units, is_extended, is_index_content, selected_units, time_of, units_in, units_of, units_or_none}
+use Rattle.mrt_body.specs.RibDumps.{DumpsState, dumps_with, heard_of, no_dumps}
+use Rattle.mrt_body.specs.Units.{at_record, begins, body_kind_of, clear_unit, clears_at, clears_if, dumps_after, found_at, found_of, found_units, is_extended, is_index_content, selected_units, units_in, units_of, units_or_none}
 use Rattle.selection_laws.specs.Wider.{of_all_peers}
 use Rattle.selection_laws.proofs.Filters.{as_found, filter_twice, keeps, keeps_found}
 use Rattle.selection_laws.proofs.HeardPeers.{Rise, heard_kept, rise_of}
@@ -71,18 +68,10 @@ module _ (narrow : UnitSelection) where
   clears_by true at peers = clears_kept at peers
   clears_by false at peers = refl
 
-  begins_same : (at : RecordAt) (index : Option (List PeerKey)) (a b : DumpsState) (kind : BodyKind) (body : List ℕ) → a.begun ≡ b.begun → begins narrow at index a kind body ≡ begins wide at index b kind body
-  begins_same at index a b (content.Rib add_path) body same =
-      ap (λ (begun : Bool). is_ok (rib_beside narrow.rules.family add_path index body) && may_begin narrow begun (time_of at 0)) same
-  begins_same at index a b content.IndexTable body same = refl
-  begins_same at index a b (content.Message width add_path) body same = refl
-  begins_same at index a b (content.States width) body same = refl
-  begins_same at index a b content.Aside body same = refl
-
   clears_same : (at : RecordAt) (index : Option (List PeerKey)) (a b : DumpsState) (kind : BodyKind) (body : List ℕ) → Alike a b →
       clears_at narrow at index a kind body ≡ filter keep (clears_at wide at index b kind body)
   clears_same at index a b kind body alike =
-      (λ i. clears_if (begins_same at index a b kind body alike.begun i) at (alike.heard i)) ∙ clears_by (begins wide at index b kind body) at b.heard
+      (λ i. clears_if (narrowed.begins_same narrow [] None narrow.prefixes at index a b kind body alike.begun i) at (alike.heard i)) ∙ clears_by (begins wide at index b kind body) at b.heard
 
   cut_kept : (file : ℕ) (index : Option (List PeerKey)) (a b : DumpsState) (cut : Cut) → Alike a b →
       found_at file narrow index a cut ≡ filter (keeps keep) (found_at file wide index b cut)
@@ -127,7 +116,7 @@ module _ (narrow : UnitSelection) where
       let read : Result (List ReplayUnit) Fault = units_in narrow.rules narrow.states at (is_extended r.kind) index kind r.body in
       alike_if (is_index_content kind) _ _
       (subst (λ (begun : Bool). Alike (dumps_with narrow.ribs begun a (units_or_none (selected_units narrow read))) (dumps_with narrow.ribs (begins wide at index b kind r.body) b (units_or_none (selected_units wide read))))
-      (sym (begins_same at index a b kind r.body alike.begun)) (alike_with (begins wide at index b kind r.body) a b read alike))
+      (sym (narrowed.begins_same narrow [] None narrow.prefixes at index a b kind r.body alike.begun)) (alike_with (begins wide at index b kind r.body) a b read alike))
   alike_after file index a b (Broken offset fault) alike = alike
 
   alike_first : Alike no_dumps no_dumps

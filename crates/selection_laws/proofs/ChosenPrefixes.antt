@@ -1,18 +1,17 @@
 -- Where RIB dumps are added, the units under chosen prefixes are those of all units that can concern one of them.
-use Rattle.std.proofs.Common.{◌≡◌, ℕ, ◌&&◌, Bool, true, false, List, [], ◌∷◌, ◌++◌, map, Option, Result, Ok, Err, refl, sym, ◌∙◌, ap}
+use Rattle.std.proofs.Common.{◌≡◌, ℕ, ◌&&◌, Bool, true, false, List, [], ◌++◌, map, Option, Result, Ok, Err, refl, sym, ◌∙◌, ap}
 use Rattle.std.specs.Result.{is_ok}
 use Rattle.std.specs.List.{filter}
 use Rattle.std.proofs.lemmas.List.Elements.{filter_agree}
 use Rattle.mrt_frame.specs.declared.fault.Fault.{Fault}
 use Rattle.mrt_frame.specs.declared.cut.Cut.{Cut}
 use Rattle.mrt_frame.specs.declared.cut.Cut.TheVariants.{Whole, Broken}
-use Rattle.peer_units.specs.declared.rib_rule.RibRule.{RibRule}
 use Rattle.peer_units.specs.declared.rib_rule.RibRule.TheVariants.{Add}
-use Rattle.peer_units.specs.Plain.{Payload, Unit as ReplayUnit, Found}
+use Rattle.peer_units.specs.Plain.{Payload, Unit as ReplayUnit}
 use Rattle.peer_units.specs.declared.unit.Payload.TheVariants.{State, Message, Entry, Clear}
 use Rattle.peer_units.specs.declared.unit.PeerKey.{PeerKey}
 use Rattle.peer_units.specs.Choices.{UnitSelection}
-use Rattle.peer_units.specs.Selections.{concerns, is_in_time, is_past, is_selected, takes_peer}
+use Rattle.peer_units.specs.Selections.{concerns, is_in_time, is_selected, takes_peer}
 use Rattle.mrt_body.specs.declared.record_place.RecordAt.{RecordAt}
 use Rattle.mrt_body.specs.declared.body_kind.BodyKind.{BodyKind}
 use Rattle.mrt_body.specs.declared.body_kind.BodyKind.TheVariants as content
@@ -38,6 +37,16 @@ concerns_all (Message bytes width add_path rules) = refl
 concerns_all (Entry rules key attrs) = refl
 concerns_all Clear = refl
 
+-- what is selected of all prefixes first
+pub selected_late : (narrow : UnitSelection) (units : List ReplayUnit) →
+    filter (is_selected narrow) units ≡ filter (λ unit. concerns narrow.prefixes unit.payload) (filter (is_selected (of_all_prefixes narrow)) units)
+selected_late narrow units =
+    let wide : UnitSelection = of_all_prefixes narrow in
+    let keep : ReplayUnit → Bool = λ unit. concerns narrow.prefixes unit.payload in
+    filter_agree (is_selected narrow) (λ unit. is_selected wide unit && keep unit)
+    (λ unit. and_last (is_in_time narrow unit) (takes_peer narrow unit.peer) (concerns [] unit.payload) (concerns narrow.prefixes unit.payload) (concerns_all unit.payload)) units
+    ∙ sym (filter_twice (is_selected wide) keep units)
+
 module _ (narrow : UnitSelection) (added : narrow.ribs ≡ Add) where
   abbrev wide : UnitSelection
   wide = of_all_prefixes narrow
@@ -45,14 +54,8 @@ module _ (narrow : UnitSelection) (added : narrow.ribs ≡ Add) where
   abbrev keep : ReplayUnit → Bool
   keep unit = concerns narrow.prefixes unit.payload
 
-  selected : (units : List ReplayUnit) → filter (is_selected narrow) units ≡ filter keep (filter (is_selected wide) units)
-  selected units =
-      filter_agree (is_selected narrow) (λ unit. is_selected wide unit && keep unit)
-      (λ unit. and_last (is_in_time narrow unit) (takes_peer narrow unit.peer) (concerns [] unit.payload) (concerns narrow.prefixes unit.payload) (concerns_all unit.payload)) units
-      ∙ sym (filter_twice (is_selected wide) keep units)
-
   record_kept : (at : RecordAt) (read : Result (List ReplayUnit) Fault) → found_of at (selected_units narrow read) ≡ filter (keeps keep) (found_of at (selected_units wide read))
-  record_kept at (Ok units) = ap (map as_found) (selected units) ∙ sym (keeps_found keep (filter (is_selected wide) units))
+  record_kept at (Ok units) = ap (map as_found) (selected_late narrow units) ∙ sym (keeps_found keep (filter (is_selected wide) units))
   record_kept at (Err fault) = refl
 
   begins_none : (selection : UnitSelection) (at : RecordAt) (index : Option (List PeerKey)) (dumps : DumpsState) (kind : BodyKind) (body : List ℕ) → selection.ribs ≡ Add →

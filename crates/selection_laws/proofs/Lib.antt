@@ -5,3 +5,4 @@ pub mod Narrowed
 pub mod ChosenPeers
 pub mod ChosenPrefixes
 pub mod Cleared
+pub mod SameRoutes

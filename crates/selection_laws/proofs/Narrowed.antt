@@ -1,5 +1,5 @@
 -- Where each cut of a file gives less by a narrower selection, so do all files.
-use Rattle.std.proofs.Common.{◌≡◌, ℕ, ◌+◌, Bool, List, [], ◌∷◌, ◌++◌, map, Option, None, Result, Ok, Err, refl, sym, ◌∙◌, ap}
+use Rattle.std.proofs.Common.{◌≡◌, ℕ, ◌+◌, ◌&&◌, Bool, List, [], ◌∷◌, ◌++◌, map, Option, None, Result, Ok, Err, refl, sym, ◌∙◌, ap}
 use Rattle.std.specs.List.{filter, filter_map}
 use Rattle.std.proofs.lemmas.List.Elements.{filter-append, filter_map-append}
 use Rattle.mrt_frame.specs.Positions.{flat_map_after}
@@ -15,8 +15,11 @@ use Rattle.peer_units.specs.Selections.{is_selected}
 use Rattle.peer_units.specs.Choices.{PeerShare, UnitSelection}
 use Rattle.mrt_body.specs.declared.record_place.RecordAt.{RecordAt}
 use Rattle.mrt_body.specs.declared.body_kind.BodyKind.{BodyKind}
-use Rattle.mrt_body.specs.RibDumps.{DumpsState, no_dumps}
-use Rattle.mrt_body.specs.Units.{at_record, body_kind_of, clears_at, damage_of, dumps_after, dumps_behind_cuts, found_at, found_in, found_in_file, found_in_files, found_of, found_units, index_after, index_before, is_extended, refused_of, selected_units, unit_of, units_in, units_of}
+use Rattle.mrt_body.specs.declared.body_kind.BodyKind.TheVariants as content
+use Rattle.mrt_body.specs.RibDumps.{DumpsState, may_begin, no_dumps}
+use Rattle.mrt_body.specs.RibRecords.{rib_beside}
+use Rattle.std.specs.Result.{is_ok}
+use Rattle.mrt_body.specs.Units.{at_record, begins, body_kind_of, clears_at, damage_of, dumps_after, dumps_behind_cuts, found_at, found_in, found_in_file, found_in_files, found_of, found_units, index_after, index_before, is_extended, refused_of, selected_units, time_of, unit_of, units_in, units_of}
 use Rattle.selection_laws.proofs.Filters.{as_found, keeps, keeps_units}
 
 -- the wider selection, of other peers and prefixes; what is kept of what that gives; and what the dumps before have in
@@ -59,10 +62,19 @@ module _ (narrow : UnitSelection) (peers : List PeerChoice) (share : Option Peer
   unfolding units_of found_in
   units_kept files = ap (filter_map unit_of) (files_kept 0 no_dumps no_dumps files alike_first) ∙ keeps_units keep (found_in_files wide 0 no_dumps files)
 
--- the same records are refused
+-- the same records are refused, and begin dumps
 module _ (narrow : UnitSelection) (peers : List PeerChoice) (share : Option PeerShare) (prefixes : List PrefixChoice) where
   abbrev other : UnitSelection
   other = record narrow { peers = peers; share = share; prefixes = prefixes }
+
+  -- by the same records before them
+  pub begins_same : (at : RecordAt) (index : Option (List PeerKey)) (a b : DumpsState) (kind : BodyKind) (body : List ℕ) → a.begun ≡ b.begun → begins narrow at index a kind body ≡ begins other at index b kind body
+  begins_same at index a b (content.Rib add_path) body same =
+      ap (λ (begun : Bool). is_ok (rib_beside narrow.rules.family add_path index body) && may_begin narrow begun (time_of at 0)) same
+  begins_same at index a b content.IndexTable body same = refl
+  begins_same at index a b (content.Message width add_path) body same = refl
+  begins_same at index a b (content.States width) body same = refl
+  begins_same at index a b content.Aside body same = refl
 
   no_damage : (units : List ReplayUnit) → filter_map damage_of (map as_found units) ≡ []
   no_damage [] = refl

@@ -11,6 +11,9 @@ ghost use Rattle.peer_units.specs.Choices.{UnitSelection};
 ghost use Rattle.peer_units.specs.Selections.{concerns, takes_peer};
 ghost use Rattle.peer_units.specs.declared.rib_rule.RibRule.TheVariants.{Add};
 ghost use Rattle.peer_units.specs.declared.unit.PeerKey.{PeerKey as AnyPeer};
+ghost use Rattle.adj_rib.specs.Steps.{is_established, is_up};
+ghost use Rattle.adj_rib.specs.Selecting.{chooses, selected_entries};
+ghost use Rattle.peer_tables.specs.Peers.{units_of_peer};
 ghost use Rattle.selection_laws.specs.Dumps.{BeginWith, begins_dump, clears_before, table_of_peer, units_before};
 ghost use Rattle.selection_laws.specs.Wider.{of_all_peers, of_all_prefixes};
 
@@ -44,4 +47,19 @@ pub fn dumps_begin_with_empty_tables()
     ensures emptied { (selection : UnitSelection) (files : List (List ℕ)) (earlier : List AnyCut) (r : AnyRecord)
         (q : AnyPeer) → begins_dump selection files earlier r ≡ true →
         table_of_peer (units_before selection files earlier ++ clears_before selection files earlier r) q ≡ [] }
+{}
+
+/// Whatever prefixes are chosen, and by either rule of RIB dumps, each peer has the same routes of these prefixes as in
+/// a reading of all, and is up or not, and its session established or not, as there. Where dumps replace what came
+/// before them, the two hear other peers, and give other clears; but where one begins, neither leaves a peer a route.
+pub fn chosen_prefixes_keep_their_routes()
+    ensures routes { (selection : UnitSelection) (files : List (List ℕ)) (q : AnyPeer) →
+        selected_entries (chooses selection.prefixes) (table_of_peer (units_of selection files) q)
+        ≡ selected_entries (chooses selection.prefixes) (table_of_peer (units_of (of_all_prefixes selection) files) q) }
+    ensures state { (selection : UnitSelection) (files : List (List ℕ)) (q : AnyPeer) →
+        is_up (units_of_peer (units_of selection files) q)
+        ≡ is_up (units_of_peer (units_of (of_all_prefixes selection) files) q) }
+    ensures established { (selection : UnitSelection) (files : List (List ℕ)) (q : AnyPeer) →
+        is_established (units_of_peer (units_of selection files) q)
+        ≡ is_established (units_of_peer (units_of (of_all_prefixes selection) files) q) }
 {}

@@ -3,8 +3,13 @@
 //! - The units of chosen peers, and of a share, are those of all units, and so are those of chosen prefixes where RIB
 //!   dumps are added (`chosen_peers_are_of_all`, `chosen_prefixes_are_of_all`).
 //! - Where a RIB dump replaces what came before it, it begins with empty tables (`dumps_begin_with_empty_tables`).
+//! - By either rule of RIB dumps, each peer has the routes of chosen prefixes that it has among all
+//!   (`chosen_prefixes_keep_their_routes`).
 #![tactic(auto)]
 
 mod laws;
 
-pub use laws::{chosen_peers_are_of_all, chosen_prefixes_are_of_all, dumps_begin_with_empty_tables};
+pub use laws::{
+    chosen_peers_are_of_all, chosen_prefixes_are_of_all, chosen_prefixes_keep_their_routes,
+    dumps_begin_with_empty_tables,
+};
