@@ -6,3 +6,4 @@ pub mod ChosenPeers
 pub mod ChosenPrefixes
 pub mod Cleared
 pub mod SameRoutes
+pub mod LastLines

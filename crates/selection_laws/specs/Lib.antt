@@ -1,2 +1,3 @@
 pub mod Wider
 pub mod Dumps
+pub mod LastLines
