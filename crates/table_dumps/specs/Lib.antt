@@ -1,0 +1,3 @@
+pub mod Dumped
+pub mod Resuming
+pub mod Checkpoints

@@ -1,0 +1,84 @@
+//! The laws of what a dump of tables leaves. Nothing is computed.
+
+ghost use Rattle.std.specs.Prelude.{map};
+ghost use Rattle.std.specs.List.{filter_map};
+ghost use Rattle.peer_units.specs.Choices.{UnitSelection};
+ghost use Rattle.peer_units.specs.declared.rib_rule.RibRule.TheVariants.{Add};
+ghost use Rattle.mrt_body.specs.RibDumps.{DumpsState};
+ghost use Rattle.mrt_body.specs.Units.{found_in_file, unit_of};
+ghost use Rattle.table_dumps.specs.Resuming.{forget};
+ghost use Rattle.std.specs.Prelude.{◌≡◌, ◌++◌, ◌∷◌, [], false, Bool, List, T, length, ℕ};
+ghost use Rattle.bgp_prefix.specs.Keys.{RouteKey, key_cmp};
+ghost use Rattle.bgp_update.specs.declared.route.Route.{Route};
+ghost use Rattle.bgp_update.specs.Families.{FamilyOf, Rules};
+ghost use Rattle.peer_units.specs.declared.state_rule.StateRule.{StateRule};
+ghost use Rattle.peer_units.specs.Plain.{Unit as ReplayUnit};
+ghost use Rattle.adj_rib.specs.Steps.{is_up, is_established, steps_of};
+ghost use Rattle.adj_rib.specs.Tables.{table_of};
+ghost use Rattle.peer_units.specs.declared.unit.Payload.TheVariants.{Clear};
+ghost use Rattle.std.specs.FinMap.{is_sorted};
+ghost use Rattle.std.specs.List.{AllByRecursion};
+ghost use Rattle.peer_units.specs.States.{stays_up};
+ghost use Rattle.peer_tables.specs.Peers.{peers_of, units_of_peer};
+ghost use Rattle.mrt_writing.specs.Dumps.{FitsDumpRecord, units_of_dump};
+ghost use Rattle.mrt_writing.specs.RibRecords.{PrefixRoute};
+ghost use Rattle.table_dumps.specs.Checkpoints.{DumpedPeer, entries_in, all_parts, Split, Splits, record_split, entries_of_parts, Apart, keys_of, checkpoint_records};
+ghost use Rattle.table_dumps.specs.Resuming.{LeaveAlike};
+ghost use Rattle.mrt_writing.specs.Heads.{state_after};
+ghost use Rattle.table_dumps.specs.Dumped.{DumpsTable, is_as};
+
+/// A state change, and then a unit for each route, leave the peer and its table as they were.
+pub fn written_tables_are_left()
+    ensures table { (family : FamilyOf) (rule : StateRule) (up : Bool) (table : List (RouteKey × Route)) (units : List ReplayUnit) →
+        DumpsTable family rule up table units → table_of (steps_of units) ≡ table }
+    ensures up { (family : FamilyOf) (rule : StateRule) (up : Bool) (table : List (RouteKey × Route)) (units : List ReplayUnit) →
+        DumpsTable family rule up table units → is_as rule (is_up units) (is_established units) ≡ up }
+{}
+
+/// Units go on alike from beginnings that leave a peer alike; and a clear of a table without routes changes nothing. So
+/// a replay can go on from whatever leaves its peers as they were.
+pub fn replays_go_on_alike()
+    ensures more { (units others more : List ReplayUnit) → LeaveAlike units others → LeaveAlike (units ++ more) (others ++ more) }
+    ensures cleared { (units : List ReplayUnit) (unit : ReplayUnit) → unit.payload ≡ Clear →
+        table_of (steps_of units) ≡ [] → LeaveAlike (units ++ unit ∷ []) units }
+    ensures down { (units : List ReplayUnit) → is_up units ≡ false → table_of (steps_of units) ≡ [] }
+{}
+
+/// The records of all prefixes have the entries of each peer, in the order of its table, however the routes of a prefix
+/// are split.
+pub fn records_have_each_entry()
+    ensures split { (family : FamilyOf) → Splits (record_split family) }
+    ensures entries { (split : Split) → Splits split →
+        (family : FamilyOf) (front : List DumpedPeer) (p : DumpedPeer) (back : List DumpedPeer) → T (is_sorted key_cmp p.table) →
+        entries_of_parts (length front) (all_parts split family (front ++ p ∷ back)) ≡ entries_in family p }
+{}
+
+/// The peers of a checkpoint's units are its peers, in their order; and its units leave each of them up or not as it was,
+/// with the same table.
+pub fn checkpoints_leave_each_table()
+    ensures peers { (split : Split) (rules : Rules) (rule : StateRule)
+        (file offset seconds : ℕ) (peers : List DumpedPeer) → Apart (keys_of peers) →
+        AllByRecursion (FitsDumpRecord rules seconds (keys_of peers)) (checkpoint_records split rules.family peers) →
+        peers_of (units_of_dump file offset rules rule seconds (keys_of peers) (checkpoint_records split rules.family peers)) ≡ keys_of peers }
+    ensures table { (split : Split) → Splits split →
+        (rules : Rules) (rule : StateRule) (file offset seconds : ℕ) (front : List DumpedPeer) (p : DumpedPeer) (back : List DumpedPeer) →
+        Apart (keys_of (front ++ p ∷ back)) →
+        AllByRecursion (FitsDumpRecord rules seconds (keys_of (front ++ p ∷ back))) (checkpoint_records split rules.family (front ++ p ∷ back)) →
+        T (is_sorted key_cmp p.table) → (stays_up rule (state_after p.up) ≡ false → p.table ≡ []) →
+        table_of (steps_of (units_of_peer (units_of_dump file offset rules rule seconds (keys_of (front ++ p ∷ back)) (checkpoint_records split rules.family (front ++ p ∷ back))) p.key)) ≡ p.table }
+    ensures up { (split : Split) → Splits split →
+        (rules : Rules) (rule : StateRule) (file offset seconds : ℕ) (front : List DumpedPeer) (p : DumpedPeer) (back : List DumpedPeer) →
+        Apart (keys_of (front ++ p ∷ back)) →
+        AllByRecursion (FitsDumpRecord rules seconds (keys_of (front ++ p ∷ back))) (checkpoint_records split rules.family (front ++ p ∷ back)) →
+        T (is_sorted key_cmp p.table) → (stays_up rule (state_after p.up) ≡ false → p.table ≡ []) →
+        is_as rule (is_up (units_of_peer (units_of_dump file offset rules rule seconds (keys_of (front ++ p ∷ back)) (checkpoint_records split rules.family (front ++ p ∷ back))) p.key))
+        (is_established (units_of_peer (units_of_dump file offset rules rule seconds (keys_of (front ++ p ∷ back)) (checkpoint_records split rules.family (front ++ p ∷ back))) p.key)) ≡ p.up }
+{}
+
+/// Where RIB dumps are added, a file gives the same units whatever stands before it, but for their places.
+pub fn files_give_units_alike()
+    ensures { (selection : UnitSelection) → selection.ribs ≡ Add →
+        (file other : ℕ) (dumps others : DumpsState) (bytes : List ℕ) → dumps.heard ≡ [] → others.heard ≡ [] →
+        map forget (filter_map unit_of (found_in_file selection file dumps bytes))
+        ≡ map forget (filter_map unit_of (found_in_file selection other others bytes)) }
+{}
