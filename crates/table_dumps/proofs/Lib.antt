@@ -4,3 +4,4 @@ pub mod MergeLaws
 pub mod PeerUnits
 pub mod PeersLaws
 pub mod PlaceLaws
+pub mod FitLaws

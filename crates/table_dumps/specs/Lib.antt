@@ -1,3 +1,4 @@
 pub mod Dumped
 pub mod Resuming
 pub mod Checkpoints
+pub mod Fitting

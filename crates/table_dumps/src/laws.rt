@@ -7,7 +7,7 @@ ghost use Rattle.peer_units.specs.declared.rib_rule.RibRule.TheVariants.{Add};
 ghost use Rattle.mrt_body.specs.RibDumps.{DumpsState};
 ghost use Rattle.mrt_body.specs.Units.{found_in_file, unit_of};
 ghost use Rattle.table_dumps.specs.Resuming.{forget};
-ghost use Rattle.std.specs.Prelude.{◌≡◌, ◌++◌, ◌∷◌, [], false, Bool, List, T, length, ℕ};
+ghost use Rattle.std.specs.Prelude.{◌≡◌, ◌<◌, ◌^◌, ◌++◌, ◌∷◌, [], false, Bool, List, T, length, ℕ};
 ghost use Rattle.bgp_prefix.specs.Keys.{RouteKey, key_cmp};
 ghost use Rattle.bgp_update.specs.declared.route.Route.{Route};
 ghost use Rattle.bgp_update.specs.Families.{FamilyOf, Rules};
@@ -20,9 +20,10 @@ ghost use Rattle.std.specs.FinMap.{is_sorted};
 ghost use Rattle.std.specs.List.{AllByRecursion};
 ghost use Rattle.peer_units.specs.States.{stays_up};
 ghost use Rattle.peer_tables.specs.Peers.{peers_of, units_of_peer};
-ghost use Rattle.mrt_writing.specs.Dumps.{FitsDumpRecord, units_of_dump};
+ghost use Rattle.mrt_writing.specs.Dumps.{FitsDump, FitsDumpRecord, units_of_dump};
 ghost use Rattle.mrt_writing.specs.RibRecords.{PrefixRoute};
 ghost use Rattle.table_dumps.specs.Checkpoints.{DumpedPeer, entries_in, all_parts, Split, Splits, record_split, entries_of_parts, Apart, keys_of, checkpoint_records};
+ghost use Rattle.table_dumps.specs.Fitting.{FitsTables};
 ghost use Rattle.table_dumps.specs.Resuming.{LeaveAlike};
 ghost use Rattle.mrt_writing.specs.Heads.{state_after};
 ghost use Rattle.table_dumps.specs.Dumped.{DumpsTable, is_as};
@@ -73,6 +74,13 @@ pub fn checkpoints_leave_each_table()
         T (is_sorted key_cmp p.table) → (stays_up rule (state_after p.up) ≡ false → p.table ≡ []) →
         is_as rule (is_up (units_of_peer (units_of_dump file offset rules rule seconds (keys_of (front ++ p ∷ back)) (checkpoint_records split rules.family (front ++ p ∷ back))) p.key))
         (is_established (units_of_peer (units_of_dump file offset rules rule seconds (keys_of (front ++ p ∷ back)) (checkpoint_records split rules.family (front ++ p ∷ back))) p.key)) ≡ p.up }
+{}
+
+/// The records of tables that fit can be written, and so are read as their units: each part of a prefix's routes is as
+/// long as a record may be, and without identifiers where all are 0.
+pub fn tables_that_fit_are_written()
+    ensures { (rules : Rules) (seconds : ℕ) (peers : List DumpedPeer) → seconds < 256 ^ 4 → FitsTables rules peers →
+        FitsDump rules seconds (keys_of peers) (checkpoint_records (record_split rules.family) rules.family peers) }
 {}
 
 /// Where RIB dumps are added, a file gives the same units whatever stands before it, but for their places.
