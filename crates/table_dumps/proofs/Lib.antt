@@ -5,3 +5,5 @@ pub mod PeerUnits
 pub mod PeersLaws
 pub mod PlaceLaws
 pub mod FitLaws
+pub mod AlikeLaws
+pub mod FilesLaws

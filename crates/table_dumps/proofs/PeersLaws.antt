@@ -39,7 +39,7 @@ addr_itself : (a : PeerAddr) → addr_eq a a ≡ true
 addr_itself (V4 a) = eq-eqb a a refl
 addr_itself (V6 a) = eq-eqb a a refl
 
-peer_itself : (p : PeerKey) → peer_eq p p ≡ true
+pub peer_itself : (p : PeerKey) → peer_eq p p ≡ true
 peer_itself p = λ i. eq-eqb p.asn p.asn refl i && addr_itself p.addr i
 
 eqb_swap : (a b : ℕ) → eqb a b ≡ eqb b a
@@ -57,7 +57,7 @@ addr_swap (V6 a) (V6 b) = eqb_swap a b
 addr_swap (V4 a) (V6 b) = refl
 addr_swap (V6 a) (V4 b) = refl
 
-peer_swap : (p q : PeerKey) → peer_eq p q ≡ peer_eq q p
+pub peer_swap : (p q : PeerKey) → peer_eq p q ≡ peer_eq q p
 peer_swap p q = λ i. eqb_swap p.asn q.asn i && addr_swap p.addr q.addr i
 
 eqb_suc : (a b : ℕ) → eqb (suc a) (suc b) ≡ eqb a b
@@ -123,10 +123,10 @@ module _ (split : Split) (whole : Splits split) (rules : Rules) (rule : StateRul
 
 -- ---- the peers in their order
 
-abbrev newcomer : List ReplayUnit → ReplayUnit → List PeerKey
+abbrev pub newcomer : List ReplayUnit → ReplayUnit → List PeerKey
 newcomer before u = cond (list_any (λ (x : ReplayUnit). peer_eq x.peer u.peer) before) [] (u.peer ∷ [])
 
-abbrev has_been : List ReplayUnit → PeerKey → Bool
+abbrev pub has_been : List ReplayUnit → PeerKey → Bool
 has_been before k = list_any (λ (x : ReplayUnit). peer_eq x.peer k) before
 
 or_true_left : (a b : Bool) → a ≡ true → (a || b) ≡ true
@@ -137,7 +137,7 @@ or_true_right : (a b : Bool) → b ≡ true → (a || b) ≡ true
 or_true_right true b h = refl
 or_true_right false b h = h
 
-or_none : (a b : Bool) → a ≡ false → b ≡ false → (a || b) ≡ false
+pub or_none : (a b : Bool) → a ≡ false → b ≡ false → (a || b) ≡ false
 or_none true b h k = absurd cc
 or_none false b h k = k
 
@@ -194,7 +194,7 @@ module _ (rules : Rules) (rule : StateRule) (file seconds : ℕ) (keys : List Pe
       by_test false g more = more g
 
   -- the others are of listed peers
-  abbrev Listed : ReplayUnit → Type 0
+  abbrev pub Listed : ReplayUnit → Type 0
   Listed u = list_any (λ (q : PeerKey). peer_eq q u.peer) keys ≡ true
 
   entries_listed : (at : RecordAt) (prefix : IpPrefix) (place : ℕ) (add_path : Bool) (entries : List PrefixRoute) → AllByRecursion (FitsPrefixRoute rules add_path (length keys)) entries → AllByRecursion Listed (units_of_entries rules at keys prefix place entries)

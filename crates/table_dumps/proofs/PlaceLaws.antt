@@ -30,7 +30,7 @@ use Rattle.mrt_body.proofs.IndexLaws.{found_in_file-is}
 use Rattle.table_dumps.specs.Resuming.{forget}
 use Rattle.mrt_writing.proofs.DumpLaws.{clears_none, behind_none}
 
-abbrev forget_read : Result (List ReplayUnit) Fault → Result (List ReplayUnit) Fault
+abbrev pub forget_read : Result (List ReplayUnit) Fault → Result (List ReplayUnit) Fault
 forget_read (Ok units) = Ok (map forget units)
 forget_read (Err fault) = Err fault
 
@@ -88,7 +88,7 @@ module _ (file other offset seconds : ℕ) where
 
 -- ---- those that are selected
 
-abbrev kept : UnitSelection → Result (List ReplayUnit) Fault → List ReplayUnit
+abbrev pub kept : UnitSelection → Result (List ReplayUnit) Fault → List ReplayUnit
 kept selection read = units_or_none (selected_units selection read)
 
 filter_forget : (selection : UnitSelection) (units : List ReplayUnit) → map forget (filter (is_selected selection) units) ≡ filter (is_selected selection) (map forget units)
@@ -104,7 +104,7 @@ kept_forget : (selection : UnitSelection) (read : Result (List ReplayUnit) Fault
 kept_forget selection (Ok units) = filter_forget selection units
 kept_forget selection (Err fault) = refl
 
-units_back : (units : List ReplayUnit) → filter_map unit_of (map (λ (u : ReplayUnit). found.Unit u) units) ≡ units
+pub units_back : (units : List ReplayUnit) → filter_map unit_of (map (λ (u : ReplayUnit). found.Unit u) units) ≡ units
 units_back [] = refl
 units_back (u ∷ units) = ap (λ (l : List ReplayUnit). u ∷ l) (units_back units)
 
@@ -115,13 +115,13 @@ found_kept selection place (Err fault) = refl
 -- ---- a whole file, where RIB dumps are added
 
 module _ (selection : UnitSelection) (add : selection.ribs ≡ Add) where
-  abbrev said : List Found → List ReplayUnit
+  abbrev pub said : List Found → List ReplayUnit
   said all = map forget (filter_map unit_of all)
 
-  said-append : (xs ys : List Found) → said (xs ++ ys) ≡ said xs ++ said ys
+  pub said-append : (xs ys : List Found) → said (xs ++ ys) ≡ said xs ++ said ys
   said-append xs ys = ap (map forget) (filter_map-append unit_of xs ys) ∙ map-append forget (filter_map unit_of xs) (filter_map unit_of ys)
 
-  whole_said : (file : ℕ) (index : Option (List PeerKey)) (dumps : DumpsState) (offset seconds kind subtype : ℕ) (body : List ℕ) → dumps.heard ≡ []
+  pub whole_said : (file : ℕ) (index : Option (List PeerKey)) (dumps : DumpsState) (offset seconds kind subtype : ℕ) (body : List ℕ) → dumps.heard ≡ []
       → said (found_at file selection index dumps (Whole (record { offset = offset; seconds = seconds; kind = kind; subtype = subtype; body = body })))
       ≡ kept selection (forget_read (units_in selection.rules selection.states (at_record file offset seconds) (is_extended kind) index (body_kind_of selection.rules.family kind subtype) body))
   unfolding found_at

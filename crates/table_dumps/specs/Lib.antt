@@ -2,3 +2,4 @@ pub mod Dumped
 pub mod Resuming
 pub mod Checkpoints
 pub mod Fitting
+pub mod Cutting
