@@ -107,19 +107,19 @@ module _ (selection : UnitSelection) (add : selection.ribs ≡ Add) where
 
   -- ---- units of files
 
-  abbrev units_at : ℕ → DumpsState → List (List ℕ) → List ReplayUnit
-  units_at file dumps files = filter_map unit_of (found_in_files selection file dumps files)
+  abbrev pub later_units : ℕ → DumpsState → List (List ℕ) → List ReplayUnit
+  later_units file dumps files = filter_map unit_of (found_in_files selection file dumps files)
 
-  pub units_first : (bytes : List ℕ) (more : List (List ℕ)) → units_of selection (bytes ∷ more) ≡ filter_map unit_of (found_in_file selection 0 no_dumps bytes) ++ units_at 1 (dumps_behind_cuts 0 selection None no_dumps (cuts 0 bytes)) more
+  pub units_first : (bytes : List ℕ) (more : List (List ℕ)) → units_of selection (bytes ∷ more) ≡ filter_map unit_of (found_in_file selection 0 no_dumps bytes) ++ later_units 1 (dumps_behind_cuts 0 selection None no_dumps (cuts 0 bytes)) more
   unfolding units_of found_in
   units_first bytes more = filter_map-append unit_of (found_in_file selection 0 no_dumps bytes) (found_in_files selection 1 (dumps_behind_cuts 0 selection None no_dumps (cuts 0 bytes)) more)
 
-  pub units_both : (files more : List (List ℕ)) → (n : ℕ) × (d : DumpsState) × (d.heard ≡ []) × (units_of selection (files ++ more) ≡ units_of selection files ++ units_at n d more)
+  pub units_both : (files more : List (List ℕ)) → (n : ℕ) × (d : DumpsState) × (d.heard ≡ []) × (units_of selection (files ++ more) ≡ units_of selection files ++ later_units n d more)
   unfolding units_of found_in
   units_both files more =
       let both = files_both 0 no_dumps files more refl in
       (both.0, both.1, both.2, ap (filter_map unit_of) both.3 ∙ filter_map-append unit_of (found_in_files selection 0 no_dumps files) (found_in_files selection both.0 both.1 more))
 
   pub others_alike : (bytes : List ℕ) (n : ℕ) (d : DumpsState) (more : List (List ℕ)) → d.heard ≡ []
-      → map forget (units_at 1 (dumps_behind_cuts 0 selection None no_dumps (cuts 0 bytes)) more) ≡ map forget (units_at n d more)
+      → map forget (later_units 1 (dumps_behind_cuts 0 selection None no_dumps (cuts 0 bytes)) more) ≡ map forget (later_units n d more)
   others_alike bytes n d more e = lists_alike 1 n (dumps_behind_cuts 0 selection None no_dumps (cuts 0 bytes)) d more (cuts_none 0 None no_dumps (cuts 0 bytes) refl) e

@@ -7,3 +7,4 @@ pub mod PlaceLaws
 pub mod FitLaws
 pub mod AlikeLaws
 pub mod FilesLaws
+pub mod CutLaws

@@ -231,6 +231,27 @@ module _ (rules : Rules) (rule : StateRule) (file seconds : ℕ) (keys : List Pe
   listed_been offset peers [] e h = tt
   listed_been offset peers (u ∷ units) e h = (states_been offset peers u.peer (sym (ap (list_any (λ (q : PeerKey). peer_eq q u.peer)) e) ∙ h.0), listed_been offset peers units e h.1)
 
+  states_listed : (offset : ℕ) (before : List PeerKey) (peers : List DumpedPeer) → keys ≡ before ++ keys_of peers → AllByRecursion Listed (units_at offset (map state_record peers))
+  states_listed offset before [] e = tt
+  states_listed offset before (p ∷ peers) e = (
+    ap (list_any (λ (q : PeerKey). peer_eq q p.key)) e ∙ list_any-append (λ (q : PeerKey). peer_eq q p.key) before (p.key ∷ keys_of peers) ∙ or_true_right (list_any (λ (q : PeerKey). peer_eq q p.key) before) _ (or_true_left (peer_eq p.key p.key) (list_any (λ (q : PeerKey). peer_eq q p.key) (keys_of peers)) (peer_itself p.key)),
+    states_listed (offset + written_size (record_of rules.family seconds (state_record p))) (before ++ p.key ∷ []) peers (e ∙ sym (append_assoc before (p.key ∷ []) (keys_of peers))),
+  )
+
+  -- all units are of listed peers
+  pub all_listed : (split : Split) (offset : ℕ) (peers : List DumpedPeer) → keys ≡ keys_of peers → AllByRecursion (FitsDumpRecord rules seconds keys) (checkpoint_records split rules.family peers)
+      → AllByRecursion Listed (units_at offset (checkpoint_records split rules.family peers))
+  all_listed split offset peers e fit =
+      let parts = map part_record (enumerate_from 0 (all_parts split rules.family peers)) in
+      let updates = flat_map (update_records rules.family) peers in
+      let fit_behind = back_all (FitsDumpRecord rules seconds keys) (map state_record peers) (parts ++ updates) fit in
+      let first = units_both rules rule file seconds keys (λ (k : PeerKey). true) offset (map state_record peers) (parts ++ updates) in
+      let second = units_both rules rule file seconds keys (λ (k : PeerKey). true) first.0 parts updates in
+      subst (AllByRecursion Listed) (sym first.1)
+      (all_both Listed (units_at offset (map state_record peers)) (units_at first.0 (parts ++ updates)) (states_listed offset [] peers e)
+      (subst (AllByRecursion Listed) (sym second.1)
+      (all_both Listed (units_at first.0 parts) (units_at second.0 updates) (parts_listed first.0 0 (all_parts split rules.family peers) (front_all (FitsDumpRecord rules seconds keys) parts updates fit_behind)) (all_updates_listed second.0 [] peers e))))
+
   pub peers_again : (split : Split) (offset : ℕ) (peers : List DumpedPeer) → keys ≡ keys_of peers → Apart (keys_of peers) → AllByRecursion (FitsDumpRecord rules seconds keys) (checkpoint_records split rules.family peers)
       → peers_of (units_at offset (checkpoint_records split rules.family peers)) ≡ keys_of peers
   unfolding peers_of

@@ -5,7 +5,7 @@ ghost use Rattle.std.specs.List.{filter_map};
 ghost use Rattle.peer_units.specs.Choices.{UnitSelection};
 ghost use Rattle.peer_units.specs.declared.rib_rule.RibRule.TheVariants.{Add};
 ghost use Rattle.mrt_body.specs.RibDumps.{DumpsState};
-ghost use Rattle.mrt_body.specs.Units.{found_in_file, unit_of};
+ghost use Rattle.mrt_body.specs.Units.{found_in_file, unit_of, units_of};
 ghost use Rattle.table_dumps.specs.Resuming.{forget};
 ghost use Rattle.std.specs.Prelude.{◌≡◌, ◌<◌, ◌^◌, ◌++◌, ◌∷◌, [], false, Bool, List, T, length, ℕ};
 ghost use Rattle.bgp_prefix.specs.Keys.{RouteKey, key_cmp};
@@ -13,6 +13,7 @@ ghost use Rattle.bgp_update.specs.declared.route.Route.{Route};
 ghost use Rattle.bgp_update.specs.Families.{FamilyOf, Rules};
 ghost use Rattle.peer_units.specs.declared.state_rule.StateRule.{StateRule};
 ghost use Rattle.peer_units.specs.Plain.{Unit as ReplayUnit};
+ghost use Rattle.peer_units.specs.declared.unit.PeerKey.{PeerKey};
 ghost use Rattle.adj_rib.specs.Steps.{is_up, is_established, steps_of};
 ghost use Rattle.adj_rib.specs.Tables.{table_of};
 ghost use Rattle.peer_units.specs.declared.unit.Payload.TheVariants.{Clear};
@@ -23,6 +24,7 @@ ghost use Rattle.peer_tables.specs.Peers.{peers_of, units_of_peer};
 ghost use Rattle.mrt_writing.specs.Dumps.{FitsDump, FitsDumpRecord, units_of_dump};
 ghost use Rattle.mrt_writing.specs.RibRecords.{PrefixRoute};
 ghost use Rattle.table_dumps.specs.Checkpoints.{DumpedPeer, entries_in, all_parts, Split, Splits, record_split, entries_of_parts, Apart, keys_of, checkpoint_records};
+ghost use Rattle.table_dumps.specs.Cutting.{CanBeCut, resumed_units};
 ghost use Rattle.table_dumps.specs.Fitting.{FitsTables};
 ghost use Rattle.table_dumps.specs.Resuming.{LeaveAlike};
 ghost use Rattle.mrt_writing.specs.Heads.{state_after};
@@ -89,4 +91,15 @@ pub fn files_give_units_alike()
         (file other : ℕ) (dumps others : DumpsState) (bytes : List ℕ) → dumps.heard ≡ [] → others.heard ≡ [] →
         map forget (filter_map unit_of (found_in_file selection file dumps bytes))
         ≡ map forget (filter_map unit_of (found_in_file selection other others bytes)) }
+{}
+
+/// A replay can be cut between two files: the units of the checkpoint of some files, and then of others, are of the same
+/// peers, in the same order, as those of all these files, and leave each of them up or not, established or not, and with
+/// the same table. So it is where RIB dumps are added and no prefix is named, if no route is left out.
+pub fn replays_can_be_cut()
+    ensures peers { (selection : UnitSelection) (files others : List (List ℕ)) → CanBeCut selection files →
+        peers_of (resumed_units selection files others) ≡ peers_of (units_of selection (files ++ others)) }
+    ensures tables { (selection : UnitSelection) (files others : List (List ℕ)) (q : PeerKey) → CanBeCut selection files →
+        LeaveAlike (units_of_peer (resumed_units selection files others) q)
+        (units_of_peer (units_of selection (files ++ others)) q) }
 {}
