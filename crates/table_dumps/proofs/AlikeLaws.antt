@@ -1,9 +1,8 @@
 -- Units that are alike but for their places, and the peers of units that go on.
 use Rattle.std.proofs.Common.{◌≡◌, ℕ, Bool, true, false, cond, ◌||◌, List, [], ◌∷◌, ◌++◌, map, Option, None, refl, sym, ap, ◌∙◌, append_assoc, append-nil}
 use Rattle.std.specs.Prelude.{unwrap_or}
-use Rattle.std.specs.List.{filter, filter_map, cons_option, last_or, list_any, AllByRecursion}
+use Rattle.std.specs.List.{filter_map, cons_option, last_or, list_any, AllByRecursion}
 use Rattle.std.proofs.lemmas.List.{map-append}
-use Rattle.std.proofs.lemmas.List.Elements.{filter-append}
 use Rattle.std.proofs.lemmas.List.Folds.{list_any-append}
 use Rattle.mrt_frame.specs.Positions.{flat_map_after}
 use Rattle.peer_units.specs.declared.state_rule.StateRule.{StateRule}
@@ -17,7 +16,7 @@ use Rattle.peer_tables.specs.Peers.{peer_eq, peers_of, units_of_peer}
 use Rattle.peer_tables.proofs.ShareLaws.{same_peer}
 use Rattle.table_dumps.specs.Checkpoints.{Apart}
 use Rattle.table_dumps.specs.Resuming.{LeaveAlike, forget}
-use Rattle.table_dumps.proofs.PeersLaws.{peer_itself, peer_swap, newcomer, has_been, or_none}
+use Rattle.table_dumps.proofs.PeersLaws.{peer_swap, newcomer, has_been}
 
 -- ---- beginnings that leave a peer alike
 

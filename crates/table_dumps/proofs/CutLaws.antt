@@ -1,20 +1,17 @@
 -- A replay goes on from a checkpoint as from what is written in it.
-use Rattle.std.proofs.Common.{◌≡◌, ℕ, ◌+◌, ◌*◌, ◌/◌, ◌-◌, ◌^◌, ◌<◌, ◌≤◌, Bool, true, false, cond, not, ◌&&◌, ◌||◌, eqb, List, [], ◌∷◌, ◌++◌, length, map, Option, Some, None, T, refl, sym, ap, subst, ◌∙◌, arith, append_assoc, append-nil}
-use Rattle.std.specs.Prelude.{min, max, nat_lt}
-use Rattle.std.specs.List.{All, filter, filter_map, flat_map, fold, list_any, AllByRecursion, enumerate_from}
+use Rattle.std.proofs.Common.{◌≡◌, ℕ, ◌+◌, ◌*◌, ◌/◌, ◌^◌, ◌<◌, ◌≤◌, Bool, true, false, cond, ◌&&◌, ◌||◌, List, [], ◌∷◌, ◌++◌, map, Option, Some, None, refl, sym, ap, subst, ◌∙◌, arith, append-nil}
+use Rattle.std.specs.Prelude.{max, nat_lt}
+use Rattle.std.specs.List.{filter, filter_map, fold, list_any, AllByRecursion}
 use Rattle.std.proofs.lemmas.Bool.{ltb-true, ltb-false, le-ltb}
 use Rattle.std.proofs.lemmas.List.{map-append}
 use Rattle.std.proofs.lemmas.List.Elements.{filter-append, All-filter}
-use Rattle.mrt_frame.specs.Cuts.{cuts, file_limit}
+use Rattle.mrt_frame.specs.Cuts.{cuts}
 use Rattle.bgp_prefix.specs.Prefixes.{IpPrefix}
-use Rattle.bgp_prefix.specs.Keys.{key_cmp}
 use Rattle.bgp_update.specs.Families.{Rules}
-use Rattle.peer_units.specs.declared.rib_rule.RibRule.TheVariants.{Add}
 use Rattle.peer_units.specs.declared.state_rule.StateRule.{StateRule}
 use Rattle.peer_units.specs.declared.state_rule.StateRule.TheVariants.{Recorded, Established}
 use Rattle.peer_units.specs.declared.unit.PeerKey.{PeerKey}
 use Rattle.peer_units.specs.declared.unit.Payload.TheVariants.{State, Message, Entry, Clear}
-use Rattle.peer_units.specs.declared.unit.Found.TheVariants as found
 use Rattle.peer_units.specs.Plain.{Payload, PrefixChoice, Unit as ReplayUnit}
 use Rattle.peer_units.specs.Choices.{UnitSelection}
 use Rattle.peer_units.specs.Selections.{concerns, is_past, is_selected, takes_peer}
@@ -29,15 +26,14 @@ use Rattle.mrt_body.specs.RibDumps.{DumpsState, no_dumps}
 use Rattle.mrt_body.specs.Units.{at_record, found_in_file, unit_of, units_of, dumps_behind_cuts}
 use Rattle.mrt_body.proofs.RuleLaws.{units_by}
 use Rattle.mrt_writing.specs.Heads.{state_after}
-use Rattle.mrt_writing.specs.Records.{records_bytes, written_size}
+use Rattle.mrt_writing.specs.Records.{written_size}
 use Rattle.mrt_writing.specs.RibRecords.{PrefixRoute, units_of_entries}
-use Rattle.mrt_writing.specs.Dumps.{DumpRecord, state, rib, update, index_record, record_of, dump_records, FitsDump, FitsDumpRecord, units_of_record, units_of_dump}
+use Rattle.mrt_writing.specs.Dumps.{DumpRecord, state, rib, update, index_record, record_of, FitsDump, FitsDumpRecord, units_of_record, units_of_dump}
 use Rattle.mrt_writing.proofs.DumpLaws.{dump_found}
 use Rattle.table_dumps.specs.Dumped.{is_as}
 use Rattle.table_dumps.specs.Checkpoints.{DumpedPeer, keys_of, record_split, checkpoint_records, Apart}
 use Rattle.table_dumps.specs.Resuming.{LeaveAlike, forget}
-use Rattle.table_dumps.specs.Fitting.{FitsTables}
-use Rattle.table_dumps.specs.Cutting.{dumped_peer, dumped_peers, latest_second, checkpoint_bytes, FitsCheckpoint, CanBeCut, resumed_units}
+use Rattle.table_dumps.specs.Cutting.{dumped_peer, dumped_peers, latest_second, checkpoint_bytes, CanBeCut, resumed_units}
 use Rattle.table_dumps.proofs.AlikeLaws.{alike_other, alike_both, alike_same, alike_forgotten, own_forgotten, peers_but_places, been_listed, peers_go_on, none_own, peers_apart}
 use Rattle.table_dumps.proofs.FilesLaws.{units_taken, units_first, units_both, others_alike, later_units}
 use Rattle.table_dumps.proofs.FitLaws.{all_both, both_true, dump_fits}
@@ -230,9 +226,9 @@ module _ (selection : UnitSelection) (files : List (List ℕ)) (h : CanBeCut sel
       each [] d l = tt
       each (u ∷ units) d l = (
         taken_if selection u
-        (ap (is_past selection.until) d.0 ∙ seconds_kept selection.until first_units (all_in_time selection first_units taken))
-        (been_taken selection first_units u.peer taken (been_listed first_units u.peer ∙ ap (list_any (λ (q : PeerKey). peer_eq q u.peer)) (sym keys_are) ∙ l.0))
-        h.whole,
+            (ap (is_past selection.until) d.0 ∙ seconds_kept selection.until first_units (all_in_time selection first_units taken))
+            (been_taken selection first_units u.peer taken (been_listed first_units u.peer ∙ ap (list_any (λ (q : PeerKey). peer_eq q u.peer)) (sym keys_are) ∙ l.0))
+            h.whole,
         each units d.1 l.1,
       )
 

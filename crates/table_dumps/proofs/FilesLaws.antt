@@ -1,5 +1,5 @@
 -- The units of lists of files, where RIB dumps are added.
-use Rattle.std.proofs.Common.{◌≡◌, ℕ, ◌+◌, Bool, true, false, cond, List, [], ◌∷◌, ◌++◌, map, Option, Some, None, Result, Ok, Err, refl, sym, ap, subst, ◌∙◌, append_assoc, append-nil}
+use Rattle.std.proofs.Common.{◌≡◌, ℕ, ◌+◌, Bool, true, false, cond, List, [], ◌∷◌, ◌++◌, map, Option, None, Result, Ok, Err, refl, sym, ap, subst, ◌∙◌, append_assoc}
 use Rattle.std.specs.List.{filter, filter_map, AllByRecursion}
 use Rattle.std.proofs.lemmas.List.Elements.{filter_map-append}
 use Rattle.mrt_frame.specs.declared.fault.Fault.{Fault}
@@ -41,10 +41,13 @@ module _ (selection : UnitSelection) (add : selection.ribs ≡ Add) where
   files_both file dumps [] more e = (file, dumps, e, refl)
   files_both file dumps (bytes ∷ files) more e =
       let next = dumps_behind_cuts file selection None dumps (cuts 0 bytes) in
-      let rest = files_both (file + 1) next files more (cuts_none file None dumps (cuts 0 bytes) e) in
-      (rest.0, rest.1, rest.2,
-      ap (λ (l : List Found). found_in_file selection file dumps bytes ++ l) rest.3
-      ∙ sym (append_assoc (found_in_file selection file dumps bytes) (found_in_files selection (file + 1) next files) (found_in_files selection rest.0 rest.1 more)))
+      let rest = files_both (file + 1) next files more (cuts_none file None dumps (cuts 0 bytes) e) in (
+        rest.0,
+        rest.1,
+        rest.2,
+        ap (λ (l : List Found). found_in_file selection file dumps bytes ++ l) rest.3
+            ∙ sym (append_assoc (found_in_file selection file dumps bytes) (found_in_files selection (file + 1) next files) (found_in_files selection rest.0 rest.1 more)),
+      )
 
   pub lists_alike : (file other : ℕ) (dumps others : DumpsState) (files : List (List ℕ)) → dumps.heard ≡ [] → others.heard ≡ []
       → said selection add (found_in_files selection file dumps files) ≡ said selection add (found_in_files selection other others files)

@@ -1,8 +1,8 @@
 -- Tables that fit are written as records that fit.
 use Rattle.std.proofs.Common.{◌≡◌, ℕ, ◌+◌, ◌^◌, ◌<◌, ◌≤◌, Bool, true, false, cond, not, ◌&&◌, ◌||◌, eqb, List, [], ◌∷◌, ◌++◌, length, map, Option, Some, None, refl, sym, ap, subst, ◌∙◌, arith, length-append}
-use Rattle.std.specs.Prelude.{take, nat_lt, nat_le, if◌then◌else◌}
+use Rattle.std.specs.Prelude.{nat_lt, nat_le}
 use Rattle.std.specs.Int.{div_ceil}
-use Rattle.std.specs.List.{filter, flat_map, list_any, AllByRecursion, enumerate_from}
+use Rattle.std.specs.List.{filter, flat_map, AllByRecursion, enumerate_from}
 use Rattle.std.specs.declared.cmp.Ordering.{Ordering}
 use Rattle.std.specs.declared.cmp.Ordering.TheVariants.{Less, Equal, Greater}
 use Rattle.std.specs.FinMap.Entries.{put, by_order}
@@ -24,7 +24,7 @@ use Rattle.mrt_writing.specs.Heads.{FitsPeerKey, state_after}
 use Rattle.mrt_writing.specs.Prefixes.{prefix_octets}
 use Rattle.mrt_writing.specs.RouteAttributes.{HasEntryHop, FitsEntryRoute}
 use Rattle.mrt_writing.specs.RibRecords.{PrefixRoute, entry_field, rib_head, written_entry, written_rib, FitsPrefixRoute}
-use Rattle.mrt_writing.specs.Updates.{FitsUpdate, update_field}
+use Rattle.mrt_writing.specs.Updates.{FitsUpdate}
 use Rattle.mrt_writing.specs.Dumps.{DumpRecord, update, has_identifier, FitsDumpRecord, FitsDump}
 use Rattle.mrt_writing.proofs.PartLaws.{rib_parts, update_len}
 use Rattle.table_dumps.specs.Dumped.{is_entry, is_ipv4_hop}

@@ -1,5 +1,5 @@
 -- A peer's table as units that leave it: a state change, and then an entry or an UPDATE for each route.
-use Rattle.std.specs.Prelude.{◌≡◌, ℕ, Bool, true, false, not, List, [], ◌∷◌, ◌++◌, Option, Some, None, Result, Ok, T, ⊤, if◌then◌else◌}
+use Rattle.std.specs.Prelude.{◌≡◌, Bool, true, false, not, List, [], ◌∷◌, ◌++◌, Option, Some, None, Result, Ok, T, ⊤, if◌then◌else◌}
 use Rattle.std.specs.List.{filter}
 use Rattle.std.specs.FinMap.{is_sorted}
 use Rattle.mrt_frame.specs.declared.fault.Fault.{Fault}

@@ -1,5 +1,5 @@
 -- Which tables can be written, so that their dump is read as they are.
-use Rattle.std.specs.Prelude.{ℕ, ◌^◌, ◌<◌, ◌≤◌, Bool, true, false, List, length}
+use Rattle.std.specs.Prelude.{◌^◌, ◌<◌, ◌≤◌, Bool, true, false, List, length}
 use Rattle.std.specs.List.{AllByRecursion}
 use Rattle.bgp_prefix.specs.Prefixes.{IsIpPrefix}
 use Rattle.bgp_prefix.specs.Keys.{RouteKey}

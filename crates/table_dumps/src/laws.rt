@@ -56,8 +56,8 @@ pub fn records_have_each_entry()
         entries_of_parts (length front) (all_parts split family (front ++ p ∷ back)) ≡ entries_in family p }
 {}
 
-/// The peers of a checkpoint's units are its peers, in their order; and its units leave each of them up or not as it was,
-/// with the same table.
+/// The peers of a checkpoint's units are its peers, in their order; and its units leave each of them up or not as it
+/// was, with the same table.
 pub fn checkpoints_leave_each_table()
     ensures peers { (split : Split) (rules : Rules) (rule : StateRule)
         (file offset seconds : ℕ) (peers : List DumpedPeer) → Apart (keys_of peers) →
@@ -79,7 +79,7 @@ pub fn checkpoints_leave_each_table()
 {}
 
 /// The records of tables that fit can be written, and so are read as their units: each part of a prefix's routes is as
-/// long as a record may be, and without identifiers where all are 0.
+/// long as a record may be, and has no identifiers where all are 0.
 pub fn tables_that_fit_are_written()
     ensures { (rules : Rules) (seconds : ℕ) (peers : List DumpedPeer) → seconds < 256 ^ 4 → FitsTables rules peers →
         FitsDump rules seconds (keys_of peers) (checkpoint_records (record_split rules.family) rules.family peers) }
@@ -93,9 +93,9 @@ pub fn files_give_units_alike()
         ≡ map forget (filter_map unit_of (found_in_file selection other others bytes)) }
 {}
 
-/// A replay can be cut between two files: the units of the checkpoint of some files, and then of others, are of the same
-/// peers, in the same order, as those of all these files, and leave each of them up or not, established or not, and with
-/// the same table. So it is where RIB dumps are added and no prefix is named, if no route is left out.
+/// A replay can be cut between two files: the units of the checkpoint of some files, and then of others, are of the
+/// same peers, in the same order, as those of all these files, and leave each of them up or not, established or not,
+/// and with the same table. So it is where RIB dumps are added and no prefix is named, if no route is left out.
 pub fn replays_can_be_cut()
     ensures peers { (selection : UnitSelection) (files others : List (List ℕ)) → CanBeCut selection files →
         peers_of (resumed_units selection files others) ≡ peers_of (units_of selection (files ++ others)) }
