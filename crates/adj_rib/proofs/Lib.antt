@@ -12,7 +12,6 @@ pub mod MappedValues
 pub mod NamedRoutes
 pub mod Listings
 pub mod Refolded
-mod Examples
 pub mod Selected
 pub mod RetainLaws
 pub mod NotingLaws

@@ -2,12 +2,10 @@ pub mod Lists
 pub mod Classes
 pub mod Peers
 pub mod Numbering
-pub mod ScheduleLaws
 pub mod SeatLaws
 pub mod SettledLaws
 pub mod RoundLaws
 pub mod RouteCounts
-pub mod Examples
 pub mod ListedLaws
 pub mod UnitLists
 pub mod MovedLists
@@ -23,9 +21,6 @@ pub mod SeatIndexes
 pub mod LaneRounds
 pub mod Bridges
 pub mod Plays
-pub mod ScheduleRuns
 pub mod HandingIn
 pub mod AllTables
 pub mod Rising
-pub mod ClassLists
-pub mod TakenTables

@@ -1,7 +1,5 @@
 pub mod Plans
-pub mod Dealings
 pub mod Lanes
-pub mod Schedules
 pub mod Replayers
 pub mod Rounds
 pub mod Numbers
@@ -24,7 +22,4 @@ pub mod Shown
 pub mod Results
 pub mod Playing
 pub mod Collecting
-pub mod OneLanes
-pub mod ShownLanes
-pub mod TakenTables
 pub mod Pairs

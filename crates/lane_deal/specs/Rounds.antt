@@ -48,27 +48,6 @@ Stops dealing plan old new left dealt Blocked = IsBlocked dealing plan.ring old 
 Stops dealing plan old new left dealt FullBatch = length dealt ≡ plan.batch
 Stops dealing plan old new left dealt End = (new.blocked_unit ≡ None) × (left ≡ [])
 
--- ---- rounds, one after the other
-
--- the replayer after a round, what is to come then, what was dealt and listed, and the answer
-pub record RoundState : Type 0 where
-  pub replayer : ReplayerState
-  pub left : List Found
-  pub done : List Found
-  pub step : Step
-
--- each goes on from where the one before left the replayer and the files
-abbrev pub AreRounds : (ℕ → ℕ → ℕ) → Plan → ReplayerState → List Found → List RoundState → Type 0
-AreRounds dealing plan r coming [] = Unit {0}
-AreRounds dealing plan r coming (round ∷ rounds) =
-    PlaysRound dealing plan.ring plan.batch r round.replayer coming round.left round.done ×
-    Stops dealing plan r round.replayer round.left (filter_map unit_of round.done) round.step
-    × AreRounds dealing plan round.replayer round.left rounds
-
--- the units that were dealt in them
-abbrev pub dealt_in : List RoundState → List ReplayUnit
-dealt_in rounds = flat_map (λ round. filter_map unit_of round.done) rounds
-
 -- ---- all is taken
 
 -- nothing waits

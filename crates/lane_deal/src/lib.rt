@@ -2,8 +2,7 @@
 //!
 //! A `Replayer` has a lane for each worker: a ring of units on their way, and the sessions of the lane's peers. In a
 //! round the dealer reads units and pushes each to its peer's lane, while each worker pops its own and gives them to
-//! their sessions. `Replayer::round` is promised for whatever the threads do; `run_schedule` states the same lanes on
-//! one thread for any list of events.
+//! their sessions. `Replayer::round` is promised for whatever the threads do.
 //!
 //! - **A fork and a join per round.** `join_mut` hands both sides what they may change and takes it back, so each half
 //!   is proved by itself over the ends that it owns. No thread outlives a round, none takes a lock, and none waits for
@@ -50,33 +49,28 @@ mod halves;
 mod holding;
 mod lane;
 mod lane_sender;
-mod laws;
 mod listed_unit;
 mod peer_unit;
 mod plan;
 mod receives;
 mod replayer;
 mod round;
-mod schedule;
-mod scheduled;
 mod seats;
 mod sessions;
 mod step;
-mod turn;
 mod unit_head;
 mod unit_list;
 mod unit_producer;
 mod worker;
 
-pub use dealing::{ByBlocks, ByList, ByTurns, Dealing};
+pub use collecting::collect_lanes;
+pub use dealing::{ByTurns, Dealing};
+pub use decoded_units::DecodedUnits;
 pub use gate::{Gate, Idle, NoGate};
-pub use laws::{
-    lanes_make_tables, lanes_share_units, rounds_are_few, schedules_keep_order,
-    settled_lanes_make_tables,
-};
+pub use holding::{HoldsSeats, exchange_seats};
+pub use peer_unit::{PeerUnit, PeerUnitOf};
 pub use plan::Plan;
 pub use replayer::Replayer;
-pub use schedule::run_schedule;
-pub use scheduled::Lanes;
+pub use seats::Seats;
+pub use sessions::Sessions;
 pub use step::Step;
-pub use turn::Turn;

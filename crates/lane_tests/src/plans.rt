@@ -1,6 +1,7 @@
 //! Plans: the least and greatest numbers.
 
 use lane_deal::*;
+use lane_schedules::{ByBlocks, ByList};
 
 const PLAN: Plan = Plan {
     workers: 64,

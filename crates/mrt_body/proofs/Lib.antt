@@ -1,6 +1,4 @@
 pub mod IndexLaws
-pub mod Dumps
-pub mod Examples
 pub mod ManyLaws
 pub mod EntryLaws
 pub mod ListLaws

@@ -1,5 +1,3 @@
-pub mod Dumps
-pub mod Examples
 pub mod FilesTaken
 pub mod HeadlineLaws
 pub mod LanesTaken

@@ -18,5 +18,3 @@ pub mod SeenLaws
 pub mod MatchLaws
 pub mod UnitReportLaws
 pub mod DefinedLaws
-pub mod Examples
-pub mod ExamplesOfUnits

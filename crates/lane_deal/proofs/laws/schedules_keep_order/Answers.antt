@@ -1,5 +1,0 @@
-use Rattle.lane_deal.proofs.ScheduleLaws.{IsShared-after_turns, taken_whole}
-use Rattle.lane_deal.proofs.laws.schedules_keep_order.Goals as goal
-
-pub returns : goal.returns
-returns c = record { shared = IsShared-after_turns; whole = taken_whole }

@@ -1,5 +1,0 @@
-use Rattle.lane_deal.proofs.ScheduleRuns.{AreGiven}
-use Rattle.lane_deal.proofs.schedule.number_all.Given as goal
-
-abbrev pub invariant-loop-unit : goal.invariant-loop-unit
-invariant-loop-unit g l = AreGiven l.yielded l.peers l.all.items
