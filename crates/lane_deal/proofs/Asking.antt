@@ -14,9 +14,9 @@ use Rattle.peer_units.specs.Plain.{Found, Unit as ReplayUnit}
 use Rattle.peer_units.specs.declared.unit.Found.TheVariants as found
 use Rattle.mrt_body.specs.ToCome.{UnitsState, GivesPending, KeepsPlan, GivesAllBefore, as_found, found_to_come, most_units_left}
 use Rattle.mrt_body.proofs.FilesLaws.{gives_found}
-use Rattle.mrt_body.specs.Readings.{Gives}
+use Rattle.mrt_body.specs.Readings.{Gives, Ends}
 use Rattle.lane_deal.specs.Results.{IfAnswered}
-use Rattle.lane_deal.specs.Asking.{TakesUnits, StopsReading, StopsBehind, as_refused, GivesFront, GivesAll, AskedInVain}
+use Rattle.lane_deal.specs.Asking.{TakesUnits, StopsReading, StopsBehind, as_refused, GivesFront, GivesAll, Asked, AskedInVain}
 
 abbrev Known : Type 0
 Known = List (Option (List ℕ))
@@ -136,6 +136,19 @@ Listed-more r r' r'' a b c k k' k'' damage p q e =
       refused = e ∙ ap (λ l. l ++ damage ∷ []) p.refused ∙ append_assoc r p.listed (damage ∷ []);
       takes = subst (TakesUnits a k c k'') (sym (map-append (λ d. found.Refused d) p.listed (damage ∷ []))) (TakesUnits-more a b c k k' k'' (as_refused p.listed) (found.Refused damage ∷ []) p.takes q);
     }
+
+-- the reading answered that nothing more is refused before a unit
+pub Asked-from : {R : Type 0} (remaining : R → Option (List ℕ)) (failures : R → ℕ) (r r' : List Damage) (a b c : UnitsState) (start files files' : List R) → Listed r r' a (map remaining start) b (map remaining files) → Gives remaining failures b files c files' [] → KeepsPlan b c
+    → (c.pending ≡ [] → Ends remaining b files c) → Asked r r' a (map remaining start) c (map remaining files')
+Asked-from remaining failures r r' a b c start files files' p gives plan ends = record {
+  listed = p.listed;
+  refused = p.refused;
+  takes = subst (TakesUnits a (map remaining start) c (map remaining files')) (append-nil (as_refused p.listed))
+      (TakesUnits-more a b c (map remaining start) (map remaining files) (map remaining files') (as_refused p.listed) [] p.takes (TakesUnits-one remaining failures b c files files' [] gives plan));
+  state = gives.state;
+  ended = λ none contents h. all_more_given a b (map remaining start) (map remaining files) (as_refused p.listed) [] p.takes (ends none).nothing contents h ∙ append-nil (as_refused p.listed);
+  at_end = λ none. (ends none).ended.1;
+}
 
 pub AskedInVain-from : (r r' : List Damage) (a b c : UnitsState) (k k' k'' : Known) (file : ℕ) → Listed r r' a k b k' → (b.state ≡ states.Reading → GivesAllBefore b k' c k'' (errors.Read file)) → AskedInVain r r' a k c k''
 AskedInVain-from r r' a b c k k' k'' file p before =

@@ -249,7 +249,7 @@ module _ {R : Type 0} (remaining : R → Option Bytes) (fails : R → ℕ) (a b 
       by_contents [] e = absurd cc
       by_contents (bytes ∷ later) e = (bytes, later, cc, refl, cc)
 
-  more_in : b.max_records ≡ a.max_records → TakesFound a (map remaining start) b (map remaining files) [] → i ≡ b.file → i < length files → HasRecord b (remaining reader) → HasMoreRecords a (map remaining start)
+  pub more_in : b.max_records ≡ a.max_records → TakesFound a (map remaining start) b (map remaining files) [] → i ≡ b.file → i < length files → HasRecord b (remaining reader) → HasMoreRecords a (map remaining start)
   more_in most before at within h contents known =
       let to_b = before contents known in
       let k = known_first to_b.0 within (ap (λ (n : ℕ). drop n (map remaining files)) at ∙ to_b.1) in
@@ -287,7 +287,7 @@ module _ {R : Type 0} (remaining : R → Option Bytes) (fails : R → ℕ) (a b 
         passes = subst (λ (s : UnitsState). Passes a contents s ((part ++ c.0) ∷ k.1) []) (sym same) (subst (λ (l : List Bytes). Passes a contents b l []) (k.3 ∙ ap (λ (bytes : Bytes). bytes ∷ k.1) c.2) to_b.2);
       }
 
-  gives_before : (e : ReplayError) → TakesFound a (map remaining start) b (map remaining files) [] → i ≡ b.file → i < length files
+  pub gives_before : (e : ReplayError) → TakesFound a (map remaining start) b (map remaining files) [] → i ≡ b.file → i < length files
       → FailsInRecord b (remaining reader) v (remaining next) e → GivesAllBefore a (map remaining start) v (map remaining (set files i next)) e
   gives_before (errors.Read file) before at within h = fails_behind before at within h.0 h.1.0 h.1.1 h.1.2 h.1.3
   gives_before errors.Write before at within h = tt

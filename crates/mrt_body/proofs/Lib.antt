@@ -22,3 +22,4 @@ pub mod FilesLaws
 pub mod HeadParts
 pub mod ReadingLaws
 pub mod RuleLaws
+pub mod ToldLaws

@@ -10,3 +10,4 @@ pub mod Listed
 pub mod Pending
 pub mod ToCome
 pub mod Readings
+pub mod Tellings

@@ -18,8 +18,11 @@ ghost use Rattle.std.specs.List.{All};
 ghost use Rattle.mrt_frame.specs.declared.error.ReplayError.TheVariants.{Read};
 ghost use Rattle.peer_units.specs.Choices.{UnitSelection};
 ghost use Rattle.mrt_body.specs.ToCome.{UnitsState, FailsBehind, GivesAllBefore, HasEnded, TakesFound, fresh_units};
+ghost use Rattle.mrt_body.specs.Tellings.{AllTold, AreWhole};
 ghost use Rattle.peer_units.specs.States.{AreByRule, AreReadBy};
 ghost use Rattle.peer_units.specs.declared.rib_rule.RibRule.TheVariants.{Add};
+
+use mrt_frame::Source;
 
 /// A record yields units exactly if its body agrees with its form (RFC 6396, 4.3 and 4.4; RFC 8050),
 /// and only these units: the bytes can be read in no other way. Any other record is refused for the
@@ -80,4 +83,20 @@ pub fn units_have_their_rules()
 pub fn added_dumps_clear_nothing()
     ensures { (selection : UnitSelection) (files : List (List ℕ)) → selection.ribs ≡ Add →
         All (λ unit. is_recorded unit.payload ≡ true) (units_of selection files) }
+{}
+
+/// What was given is what whole files hold that begin with what was read of them, and what files hold whose readers make
+/// their bytes known.
+pub fn tellings_are_of_files<R: Source>(_device: &R)
+    ensures whole { (a b : UnitsState) (files left : List R) (taken : List Found)
+        (t : AllTold R.reads files left a.file b.file (λ told now. TakesFound a told b now taken))
+        (rests wholes : List (List ℕ)) → AreWhole t.inputs rests wholes →
+        TakesFound a (map (λ bytes. Some bytes) wholes) b (map (λ bytes. Some bytes) rests) taken }
+    ensures joined { (a b c : UnitsState) (files mids left : List R) (taken more : List Found) →
+        AllTold R.reads files mids a.file b.file (λ told now. TakesFound a told b now taken) →
+        AllTold R.reads mids left b.file c.file (λ told now. TakesFound b told c now more) →
+        AllTold R.reads files left a.file c.file (λ told now. TakesFound a told c now (taken ++ more)) }
+    ensures known { (a b : UnitsState) (files left : List R) (taken : List Found) →
+        AllTold R.reads files left a.file b.file (λ told now. TakesFound a told b now taken) →
+        TakesFound a (map R.remaining files) b (map R.remaining left) taken }
 {}

@@ -9,7 +9,9 @@ ghost use Rattle.mrt_body.specs.declared.lent_units.Lent.TheVariants as Lent;
 ghost use Rattle.mrt_frame.specs.declared.read_state.ReadState.TheVariants.{Reading};
 ghost use Rattle.mrt_body.specs.Units.{IsSmall, all_cuts, found_in};
 ghost use Rattle.peer_units.specs.Payloads.{IsSmallUnit};
-ghost use Rattle.mrt_body.specs.ToCome.{UnitsState, GivesPending, Steps, refusals, cuts_to_come, found_to_come, fresh_units, index_peers, index_pending};
+ghost use Rattle.mrt_frame.specs.Given.{Told};
+ghost use Rattle.mrt_body.specs.Tellings.{AllTold, StopsTold, AllStopsTold};
+ghost use Rattle.mrt_body.specs.ToCome.{CutsOne, TakesFound, UnitsState, GivesPending, Steps, refusals, cuts_to_come, found_to_come, fresh_units, index_peers, index_pending};
 ghost use Rattle.mrt_body.specs.Readings.{Gives, Ends, Stops, Stays, IsBounded, GivesCut, Lowers, StopsInFile, GoesOn, WantsMemory, StaysHere};
 
 use crate::body_kind::{body_kind_of, is_extended};
@@ -138,6 +140,11 @@ impl<F: Unicast> Units<F> {
         requires { length files.old ≡ self.old.count }
         ensures gives { IfOk result (λ found. Gives R.remaining R.failure_count self.old files.old
             self.new files.new (option_to_list found)) }
+        ensures told { IfOk result (λ found. AllTold R.reads files.old files.new self.old.file self.new.file
+            (λ told left. TakesFound self.old told self.new left (option_to_list found))) }
+        ensures stops_told { IfErr result (λ error. self.old.state ≡ Reading →
+            AllTold R.reads files.old files.new self.old.file self.new.file
+            (AllStopsTold self.old self.new error)) }
         ensures ends { IfOk result (λ found. found ≡ None → Ends R.remaining self.old files.old self.new) }
         ensures stops { IfErr result
             (Stops R.remaining R.failure_count self.old files.old self.new files.new) }
@@ -166,6 +173,11 @@ impl<F: Unicast> Units<F> {
         requires { length files.old ≡ self.old.count }
         ensures gives { IfOk result (λ refused. Gives R.remaining R.failure_count self.old files.old
             self.new files.new (refusals refused)) }
+        ensures told { IfOk result (λ refused. AllTold R.reads files.old files.new self.old.file self.new.file
+            (λ told left. TakesFound self.old told self.new left (refusals refused))) }
+        ensures stops_told { IfErr result (λ error. self.old.state ≡ Reading →
+            AllTold R.reads files.old files.new self.old.file self.new.file
+            (AllStopsTold self.old self.new error)) }
         ensures ends { IfOk result
             (λ refused. refused ≡ None → self.new.pending ≡ [] → Ends R.remaining self.old files.old self.new) }
         ensures stops { IfErr result
@@ -312,6 +324,10 @@ impl<F: Unicast> Units<F> {
         ensures gives { IfOk result (GivesCut R.remaining R.failure_count self.old reader.old self.new reader.new) }
         ensures stops { IfErr result
             (StopsInFile R.remaining R.failure_count self.old reader.old self.new reader.new) }
+        ensures told { IfOk result (λ cut. Told R.reads reader.old reader.new (self.old.file < self.new.file)
+            (λ told left. CutsOne self.old told self.new left cut)) }
+        ensures stops_told { IfErr result (λ error. Told R.reads reader.old reader.new ⊥
+            (StopsTold self.old self.new error)) }
         ensures bounds { GoesOn self.old self.new }
         ensures counted { self.old.aside ≤ self.old.records }
     {
@@ -356,6 +372,10 @@ impl<F: Unicast> Units<F> {
         requires given { self.old.pending ≡ [] }
         ensures gives { IfOk result (λ refused. Steps self.old (R.remaining reader.old)
             self.new (R.remaining reader.new) (refusals refused)) }
+        ensures told { IfOk result (λ refused. Told R.reads reader.old reader.new (self.old.file < self.new.file)
+            (λ told left. Steps self.old told self.new left (refusals refused))) }
+        ensures stops_told { IfErr result (λ error. Told R.reads reader.old reader.new ⊥
+            (StopsTold self.old self.new error)) }
         ensures lowers { IfOk result (Lowers R.failure_count self.old reader.old self.new reader.new) }
         ensures stops { IfErr result
             (StopsInFile R.remaining R.failure_count self.old reader.old self.new reader.new) }

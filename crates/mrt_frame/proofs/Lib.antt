@@ -8,3 +8,6 @@ pub mod FieldLaws
 pub mod PositionLaws
 pub mod FrameLaws
 pub mod WriteLaws
+pub mod GivenLaws
+pub mod FirstRead
+pub mod NextRead

@@ -2,8 +2,10 @@ pub mod Devices
 pub mod Faults
 pub mod Cuts
 pub mod Frames
+pub mod Given
 pub mod Cutting
 pub mod Writes
 pub mod Fields
 pub mod Positions
 pub mod Bytes
+pub mod Logged

@@ -1,8 +1,10 @@
 // Records, one by one, from a reader.
-ghost use Rattle.std.specs.Prelude.{◌≡◌, ◌<◌, ◌≤◌, ◌+◌, Option, Some, None, IfOk, IfErr, IfSome, OnOk, OnErr, Ok, Err, length, vec_len};
+ghost use Rattle.std.specs.Prelude.{true, false, ◌≡◌, ◌<◌, ◌≤◌, ◌+◌, Option, Some, None, IfOk, IfErr, IfSome, OnOk, OnErr, Ok, Err, length, vec_len};
 ghost use Rattle.std.specs.Io.KnownBytes.{Consumes, IsAtEnd};
 ghost use Rattle.mrt_frame.specs.Cuts.{record_limit};
 ghost use Rattle.mrt_frame.specs.Frames.{Position, IsFirstCut, ReadsFewer, ReadsNoMoreThan, ReadsPart, StandsAt, IsReadCause, Gives, Stops, Stays, IsBounded, start_of};
+ghost use Rattle.mrt_frame.specs.declared.read_state.ReadState.TheVariants.{Reading, Ended};
+ghost use Rattle.mrt_frame.specs.Given.{StopsIn, ReadsFirst, ReadsPartOf, Told, NextIs, PartIs};
 
 use crate::cut::{Cut, Record};
 use crate::device::Source;
@@ -57,6 +59,10 @@ impl FrameReader {
             (Gives R.remaining R.failure_count self.old reader.old self.new reader.new) }
         ensures stops { IfErr result
             (Stops R.remaining R.failure_count self.old reader.old self.new reader.new) }
+        ensures told { IfOk result (λ cut. Told R.reads reader.old reader.new (self.new.state ≡ Ended)
+            (NextIs self.old self.new cut)) }
+        ensures part { IfErr result (λ error. self.old.state ≡ Reading →
+            Told R.reads reader.old reader.new ⊥ (PartIs self.old error)) }
         ensures bounds { IsBounded R.remaining self.old reader.old self.new reader.new }
         ensures stays { Stays self.old reader.old self.new reader.new result }
     {
@@ -75,6 +81,10 @@ impl FrameReader {
             (Gives R.remaining R.failure_count self.old reader.old self.new reader.new) }
         ensures stops { IfErr result
             (Stops R.remaining R.failure_count self.old reader.old self.new reader.new) }
+        ensures told { IfOk result (λ cut. Told R.reads reader.old reader.new (self.new.state ≡ Ended)
+            (NextIs self.old self.new cut)) }
+        ensures part { IfErr result (λ error. self.old.state ≡ Reading →
+            Told R.reads reader.old reader.new ⊥ (PartIs self.old error)) }
         ensures bounds { IsBounded R.remaining self.old reader.old self.new reader.new }
         ensures stays { Stays self.old reader.old self.new reader.new result }
     {
@@ -96,6 +106,10 @@ impl FrameReader {
             (Gives R.remaining R.failure_count self.old reader.old self.new reader.new) }
         ensures stops { IfErr result
             (Stops R.remaining R.failure_count self.old reader.old self.new reader.new) }
+        ensures told { IfOk result (λ cut. Told R.reads reader.old reader.new (self.new.state ≡ Ended)
+            (NextIs self.old self.new cut)) }
+        ensures part { IfErr result (λ error. self.old.state ≡ Reading →
+            Told R.reads reader.old reader.new ⊥ (PartIs self.old error)) }
         ensures bounds { IsBounded R.remaining self.old reader.old self.new reader.new }
     {
         let result = read_cut(block, self.file, self.offset, reader);
@@ -124,6 +138,8 @@ fn read_cut<R: Source>(
     ensures cause { IfErr result (IsReadCause file (R.failure_count reader.old) (R.failure_count reader.new)) }
     ensures counted { OnOk result (R.failure_count reader.new ≡ R.failure_count reader.old) }
     ensures reads { ReadsNoMoreThan record_limit (R.remaining reader.old) (R.remaining reader.new) }
+    ensures read { IfOk result (ReadsFirst R.reads offset reader.old reader.new) }
+    ensures stopped { IfErr result (ReadsPartOf R.reads offset reader.old reader.new) }
 {
     let mut header = [0; 12];
     let Ok(count) = read_full(reader, &mut header) else {
@@ -175,6 +191,9 @@ fn read_body<R: Source>(
     ensures counted { OnOk result (R.failure_count reader.new ≡ R.failure_count reader.old) }
     ensures part { IfErr result (ReadsFewer length (R.remaining reader.old) (R.remaining reader.new)) }
     ensures err { OnErr result (ReadsNoMoreThan length (R.remaining reader.old) (R.remaining reader.new)) }
+    ensures full { IfOk result (λ body. length ≤ vec_len body → R.reads reader.old body.items false reader.new) }
+    ensures short { IfOk result (λ body. vec_len body < length → R.reads reader.old body.items true reader.new) }
+    ensures stopped { IfErr result (StopsIn R.reads length reader.old reader.new) }
 {
     let mut bytes = block;
     bytes.resize(length as usize, 0)?;

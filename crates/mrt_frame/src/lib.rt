@@ -31,6 +31,7 @@ mod filling;
 mod frame_reader;
 mod header;
 mod laws;
+mod logged;
 mod read_state;
 mod writing;
 
@@ -42,5 +43,6 @@ pub use field::{byte_at, bytes_at, u16_at, u32_at, u128_at};
 pub use frame_reader::FrameReader;
 pub use header::{HEADER_SIZE, Header, is_within_limits};
 pub use laws::{cutting_is_unique, readings_give_all_cuts};
+pub use logged::Logged;
 pub use read_state::ReadState;
 pub use writing::write_full;

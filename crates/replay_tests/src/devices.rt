@@ -4,7 +4,7 @@ use crate::harness::{PLAN, full, replay, replay_readers};
 use adj_rib::RouteId;
 use fixtures::{Dripping, THREE_PEERS, THREE_ROUTES, bytes_of};
 use lane_deal::{ByTurns, NoGate, Plan};
-use mrt_frame::{Counted, ReplayError, Sink};
+use mrt_frame::{Counted, Logged, ReplayError, Sink};
 use mrt_replay::{Summary, run, status};
 use peer_units::Selection;
 use prefix_maps::Radix;
@@ -110,6 +110,28 @@ fn every_interrupted_read_leaves_nothing_written_by_four_workers(
     rt: HostRuntime,
 ) -> Result<(), Fail> {
     expect_every_read(&rt, rt.alloc(), ErrorKind::Interrupted, 4)
+}
+
+/// A replay reads a file whole: what the reads of a device return that comes byte by byte is the file.
+#[test]
+fn what_reads_returned_is_the_file(rt: HostRuntime) -> Result<(), Fail> {
+    let alloc = rt.alloc();
+    let bytes = bytes_of(alloc, THREE_PEERS)?;
+    for workers in [1, 4] {
+        let plan = Plan { workers, ..PLAN };
+        let device = Counted::new(Dripping::new(bytes.as_slice(), None));
+        let mut readers = [Logged::new(alloc, device)];
+        let outcome = replay_readers::<Radix<u32, RouteId>, _>(
+            &rt,
+            alloc,
+            &mut readers,
+            &Request::Tables,
+            &plan,
+        )?;
+        assert!(rt; outcome.result.is_ok(), "{workers} workers");
+        assert!(rt; readers[0].log() == bytes.as_slice(), "{workers} workers");
+    }
+    Ok(())
 }
 
 /// What a run over one file in memory answers, to a writer.
