@@ -30,7 +30,7 @@ $(QUICK): $(SOURCES) $(BUILDING) tools/trial.py
 	@tools/build.py quick
 
 help:
-	@echo 'make              builds bin/bgp_replay (a first build proves every crate below: fifteen to thirty minutes on 4 cores)'
+	@echo 'make              builds bin/bgp_replay (a first build proves every crate below: up to an hour on 4 cores)'
 	@echo 'make quick        builds bin/quick/bgp_replay in two minutes, with no proof: slower, and never installed or packed'
 	@echo 'make run          replays the sample by `tables`'
 	@echo 'make check        the gate: every proof, must-fail edit, test and run from nothing, make scripts, make quick-check and make python-check'
