@@ -28,10 +28,6 @@ ghost use Rattle.report_request.specs.Requests.{request_of};
 ghost use Rattle.replay_io.specs.Devices.{dump_remaining, report_contents};
 ghost use Rattle.lane_deal.specs.Plans.{IsPlan};
 
-mod lists;
-mod notes;
-mod telling;
-
 use adj_rib::RouteId;
 use bgp_prefix::{Ipv6, Memory, Prefix};
 use bgp_update::Unicast;
@@ -41,16 +37,19 @@ use command_line::{
     standard_input_fault, wrapped,
 };
 use lane_deal::{ByTurns, Plan};
-use lists::{listed_dumps, listed_prefixes};
 use mrt_frame::{Counted, ReplayError};
-use mrt_replay::{Summary, run, status};
-use notes::tell_notes;
+use mrt_replay::run;
 use packed_io::PackedFiles;
 use peer_units::{ChosenPrefixes, PrefixChoice, Reach, Selection};
 use replay_io::{
     Board, Counter, Counts, Device, Dump, Files, Input, Naps, OpenError, Output, Report, Watched,
     header_of, inputs_of, packed_files_of, terminal_width,
 };
+use replay_messages::{
+    has_ended_early, listed_dumps, listed_prefixes, tell, tell_memory, tell_notes, tell_open,
+    tell_summary, tell_write,
+};
+use replay_summary::{Summary, status};
 use report_request::Request;
 use rib_report::WrittenAddress;
 use std::alloc::{AllocError, Global};
@@ -60,7 +59,6 @@ use std::marker::{Send, Sync};
 use std::process::ExitCode;
 use std::thread::{Threads, available_parallelism, join};
 use std::time::{Duration, Instant};
-use telling::{has_ended_early, tell, tell_memory, tell_open, tell_summary, tell_write};
 
 /// A family whose routes are replayed by threads: its addresses are read and written.
 trait Replayed: AddressText + WrittenAddress + Send + Sync {}

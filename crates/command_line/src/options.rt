@@ -1,6 +1,6 @@
 //! The options, the commands and their columns: help, manual page, README, usage page and completions are made from
 //! these tables (`tools/options.py` reads this file). The names alone stand elsewhere too: of commands where they are
-//! read (`words.rt`) and in advice on packed dumps (`bgp_replay/src/telling.rt`), of columns in the header
+//! read (`words.rt`) and in advice on packed dumps (`replay_messages/src/telling.rt`), of columns in the header
 //! (`replay_io/src/output.rt`).
 
 /// What an option takes behind it.

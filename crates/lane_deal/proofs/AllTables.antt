@@ -7,7 +7,7 @@ use Rattle.std.specs.List.Sorted.{IsPermutation, IsStrictlyIncreasing}
 use Rattle.std.proofs.lemmas.List.Sorted.{IsPermutation-map, IsPermutation-sym}
 use Rattle.std.proofs.lemmas.Map.Keys.{IsDistinct-IsPermutation, IsDistinct-prop}
 use Rattle.std.proofs.lemmas.Cmp.{nat_eq_equiv}
-use Rattle.lane_deal.specs.UnitRings.{sent, known_free, received, known_items, ring_capacity, IsPair}
+use Rattle.unit_rings.specs.UnitRings.{sent, known_free, received, known_items, ring_capacity, IsPair}
 use Rattle.peer_units.specs.declared.unit.Damage.{Damage}
 use Rattle.peer_units.specs.Plain.{Unit as ReplayUnit}
 use Rattle.peer_tables.specs.Seats.{seat_of}

@@ -4,14 +4,15 @@ use Rattle.std.specs.Prelude.{slice_get}
 use Rattle.std.specs.List.{filter, list_any, AllByRecursion}
 use Rattle.std.proofs.lemmas.List.{length-map, map-append}
 use Rattle.std.proofs.Math.Bool.{or-true}
-use Rattle.lane_deal.specs.UnitRings.{sent}
+use Rattle.unit_rings.specs.UnitRings.{sent}
 use Rattle.peer_units.specs.declared.unit.PeerKey.{PeerKey}
 use Rattle.peer_units.specs.Plain.{Unit as ReplayUnit}
 use Rattle.peer_tables.specs.Peers.{peer_eq, peers_of}
 use Rattle.bgp_prefix.specs.declared.family.Family.{Ghosts as AddressGhosts}
 use Rattle.bgp_prefix.specs.declared.map.PrefixMap.{Ghosts}
 use Rattle.adj_rib.specs.declared.routes.RouteId.{RouteId}
-use Rattle.lane_deal.specs.Plain.{LaneSender, PeerUnit, Worker}
+use Rattle.unit_rings.specs.Plain.{PeerUnit}
+use Rattle.lane_deal.specs.Plain.{LaneSender, Worker}
 use Rattle.lane_deal.specs.declared.seats.Seats.{Seats}
 use Rattle.lane_deal.specs.LaneSenders.{in_lane}
 use Rattle.lane_deal.specs.LaneRings.{IsReady, LaneStands}
@@ -21,7 +22,7 @@ use Rattle.lane_deal.specs.Numbers.{with_number, with_numbers, without_numbers}
 use Rattle.lane_deal.specs.Replayers.{LaneState, LaneStandsFor}
 use Rattle.lane_deal.specs.Seating.{seat_by, seats_by}
 use Rattle.lane_deal.specs.Shown.{lane_state, lane_states, SeatsHold}
-use Rattle.lane_deal.proofs.Lists.{all_both, all_filtered, all_mapped, all_more, all_of, all_unmapped, back_of, filter_mapped, front_of, map_alike}
+use Rattle.unit_rings.proofs.Lists.{all_both, all_filtered, all_mapped, all_more, all_of, all_unmapped, back_of, filter_mapped, front_of, map_alike}
 use Rattle.lane_deal.proofs.Peers.{is_seen, listed_peer, numbers_stay}
 use Rattle.peer_tables.proofs.PeerPositions.{listed_gets, some_is}
 use Rattle.lane_deal.proofs.SeatLists.{seen_more}

@@ -19,7 +19,7 @@ use Rattle.mrt_frame.specs.declared.read_state.ReadState.TheVariants as states
 use Rattle.mrt_body.specs.ToCome.{UnitsState, GivesPending, as_found}
 use Rattle.peer_tables.specs.Peers.{peer_eq, peers_of}
 use Rattle.lane_deal.specs.Dealers.{Dealer}
-use Rattle.lane_deal.specs.Plain.{PeerUnit}
+use Rattle.unit_rings.specs.Plain.{PeerUnit}
 use Rattle.lane_deal.specs.declared.step.Step.{Step}
 use Rattle.lane_deal.specs.declared.step.Step.TheVariants.{Blocked, FullBatch, End}
 use Rattle.lane_deal.specs.Asking.{TakesUnits, GivesAll, as_refused, Asked, AskedInVain}
@@ -31,7 +31,7 @@ use Rattle.lane_deal.specs.Numbers.{with_number, with_numbers}
 use Rattle.lane_deal.proofs.Asking.{all_units, TakesUnits-none, TakesUnits-more, TakesUnits-pending, front_from_takes, front_more, behind_more}
 use Rattle.lane_deal.proofs.Numbering.{unlisted}
 use Rattle.peer_tables.proofs.PeerPositions.{listed_now, peer_itself, first_position}
-use Rattle.lane_deal.proofs.Lists.{all_more, all_push}
+use Rattle.unit_rings.proofs.Lists.{all_more, all_push}
 use Rattle.lane_deal.proofs.Peers.{is_seen, new_peer, peers_of-append, listed_peer}
 
 abbrev Known : Type 0

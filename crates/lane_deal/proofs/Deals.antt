@@ -2,10 +2,11 @@
 use Rattle.std.proofs.Common.{◌≡◌, ℕ, zero, suc, ◌+◌, ◌<◌, ◌≤◌, List, [], ◌∷◌, ◌++◌, length, slice_index_or, set, refl, sym, arith}
 use Rattle.std.proofs.lemmas.List.{append-nil}
 use Rattle.std.proofs.lemmas.List.Elements.{filter-append}
-use Rattle.lane_deal.specs.UnitRings.{known_free, sent}
-use Rattle.lane_deal.specs.Plain.{PeerUnit, LaneSender}
+use Rattle.unit_rings.specs.UnitRings.{known_free, sent}
+use Rattle.unit_rings.specs.Plain.{PeerUnit}
+use Rattle.lane_deal.specs.Plain.{LaneSender}
 use Rattle.lane_deal.specs.LaneSenders.{Dealt, in_lane, room_of}
-use Rattle.lane_deal.proofs.Lists.{some_item}
+use Rattle.unit_rings.proofs.Lists.{some_item}
 
 -- the room of a lane is that of its ring
 pub room_at : (senders : List LaneSender) (lane : ℕ) (d : LaneSender) → lane < length senders → room_of senders lane ≡ known_free (slice_index_or senders lane d).producer

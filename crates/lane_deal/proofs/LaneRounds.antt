@@ -2,8 +2,9 @@
 use Rattle.std.proofs.Common.{◌≡◌, ℕ, zero, suc, ◌+◌, ◌<◌, ◌≤◌, cond, eqb, List, [], ◌∷◌, ◌++◌, refl, length, take, Option, Result, slice_index_or, sym, ap, ◌∙◌, subst, append_assoc, arith, length-append}
 use Rattle.std.specs.List.{AllZip}
 use Rattle.std.proofs.lemmas.List.Elements.{length_all_zip, AllZip-get_or}
-use Rattle.lane_deal.specs.UnitRings.{ListConsumer, IsPair, sent, known_free, received, known_items, ring_capacity}
-use Rattle.lane_deal.specs.Plain.{PeerUnit, LaneSender, Worker}
+use Rattle.unit_rings.specs.UnitRings.{ListConsumer, IsPair, sent, known_free, received, known_items, ring_capacity}
+use Rattle.unit_rings.specs.Plain.{PeerUnit}
+use Rattle.lane_deal.specs.Plain.{LaneSender, Worker}
 use Rattle.lane_deal.specs.LaneSenders.{in_lane, room_of, Pushed, Dealt}
 use Rattle.lane_deal.specs.LaneRounds.{Rounded, PlaysLanes}
 use Rattle.lane_deal.specs.LaneWorkers.{Takes, Worked}

@@ -1,4 +1,3 @@
-pub mod Lists
 pub mod Classes
 pub mod Peers
 pub mod Numbering
@@ -6,11 +5,7 @@ pub mod SeatLaws
 pub mod SettledLaws
 pub mod RoundLaws
 pub mod RouteCounts
-pub mod ListedLaws
-pub mod UnitLists
-pub mod MovedLists
 pub mod Pairs
-pub mod Batches
 pub mod Working
 pub mod Renewals
 pub mod Deals

@@ -13,7 +13,7 @@ use Rattle.peer_tables.specs.Peers.{peer_eq, peers_of, units_of_peer}
 use Rattle.peer_tables.proofs.ShareLaws.{same_peer}
 use Rattle.peer_tables.proofs.PeerPositions.{first_position, peer_itself}
 use Rattle.lane_deal.specs.Lanes.{number_of_peer}
-use Rattle.lane_deal.proofs.Lists.{all_more}
+use Rattle.unit_rings.proofs.Lists.{all_more}
 
 -- ---- peers, one unit after the other
 

@@ -4,7 +4,7 @@ use Rattle.std.specs.Prelude.{slice_get, option_to_list, IfOk}
 use Rattle.std.specs.List.{filter, filter_map, count_by}
 use Rattle.std.proofs.lemmas.List.{length-map, nil_from_length, get_or_default}
 use Rattle.std.proofs.lemmas.List.Sums.{length-filter}
-use Rattle.lane_deal.specs.UnitRings.{known_free, ring_capacity}
+use Rattle.unit_rings.specs.UnitRings.{known_free, ring_capacity}
 use Rattle.mrt_frame.specs.declared.error.ReplayError.{ReplayError}
 use Rattle.mrt_frame.specs.declared.error.ReplayError.TheVariants.{Read, Write, Memory, Records, Spent as SpentBefore}
 use Rattle.peer_units.specs.declared.unit.Damage.{Damage}
@@ -39,7 +39,7 @@ use Rattle.lane_deal.specs.Replayers.{LaneState, ReplayerState, LaneStandsFor, R
 use Rattle.std.proofs.Math.Logic.{∥∥₁_map}
 use Rattle.lane_deal.specs.Rounds.{PlaysRound, Stops, Settles, share_of, lane_in}
 use Rattle.lane_deal.specs.Shown.{lane_state, lane_states, state_at, SeatsHold}
-use Rattle.lane_deal.proofs.Lists.{filter_mapped, some_item}
+use Rattle.unit_rings.proofs.Lists.{filter_mapped, some_item}
 use Rattle.lane_deal.proofs.Bridges.{dealt_items, dealt_items-append, stands_in, stands_out, length-lane_states, lane_states-at, lane_at}
 use Rattle.lane_deal.proofs.Deals.{room_at}
 use Rattle.lane_deal.proofs.DealerLaws.{in_order}

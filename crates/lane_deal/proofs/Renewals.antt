@@ -1,7 +1,8 @@
 -- The lanes are renewed one by one.
 use Rattle.std.proofs.Common.{ℕ, ◌+◌, ◌<◌, List, [], ◌∷◌, ◌++◌, length, slice_index_or, ap, ◌∙◌, arith, below_more}
 use Rattle.std.proofs.lemmas.List.{length_push, get_or_append_left, get_or_push}
-use Rattle.lane_deal.specs.Plain.{PeerUnit, LaneSender, Worker}
+use Rattle.unit_rings.specs.Plain.{PeerUnit}
+use Rattle.lane_deal.specs.Plain.{LaneSender, Worker}
 use Rattle.lane_deal.specs.LaneRings.{IsFresh, AreFresh}
 
 module _ {S : Type 0} (stands_for : S → List PeerUnit → Type 0) (capacity : ℕ) where

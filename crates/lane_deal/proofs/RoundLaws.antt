@@ -10,7 +10,7 @@ use Rattle.peer_tables.specs.Peers.{peer_eq}
 use Rattle.peer_tables.proofs.PeerPositions.{some_is}
 use Rattle.lane_deal.specs.Replayers.{LaneState, ReplayerState}
 use Rattle.lane_deal.specs.Rounds.{lane_in, share_of, PlaysRound, IsBlocked}
-use Rattle.lane_deal.proofs.Lists.{all_of}
+use Rattle.unit_rings.proofs.Lists.{all_of}
 use Rattle.lane_deal.proofs.Classes.{of_class, by_class, by_class-IsPermutation}
 
 -- ---- how many units wait

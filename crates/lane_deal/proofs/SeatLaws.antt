@@ -12,7 +12,7 @@ use Rattle.adj_rib.specs.Sessions.{session_of}
 use Rattle.peer_tables.specs.Peers.{peers_of, units_of_peer}
 use Rattle.peer_tables.specs.Tables.{Seat, tables_of}
 use Rattle.lane_deal.specs.Lanes.{number_of_peer, lane_units, seats_of_lane}
-use Rattle.lane_deal.proofs.Lists.{all_of}
+use Rattle.unit_rings.proofs.Lists.{all_of}
 use Rattle.lane_deal.proofs.Classes.{of_class, by_class, by_class-IsPermutation}
 use Rattle.lane_deal.proofs.Peers.{units_of_chosen, peers_of_chosen}
 use Rattle.lane_deal.proofs.Numbering.{numbered_peers, positions_rise}

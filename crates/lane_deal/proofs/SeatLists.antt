@@ -16,7 +16,7 @@ use Rattle.peer_tables.specs.Peers.{peer_eq, peers_of, units_of_peer}
 use Rattle.peer_tables.specs.Seats.{seat_of}
 use Rattle.peer_tables.specs.Tables.{Seat}
 use Rattle.peer_tables.specs.declared.tables.Seated.{Seated}
-use Rattle.lane_deal.specs.Plain.{PeerUnit}
+use Rattle.unit_rings.specs.Plain.{PeerUnit}
 use Rattle.peer_tables.specs.Numbers.{AreApart, number_in}
 use Rattle.lane_deal.specs.Numbers.{without_numbers}
 use Rattle.lane_deal.specs.Seating.{seat_by, seats_by, AreNumbered, HoldsUnits, new_seat, SeatFor, TakenAt}
@@ -25,7 +25,7 @@ use Rattle.peer_tables.proofs.ShareLaws.{same_peer}
 use Rattle.peer_tables.proofs.PeerPositions.{peer_itself, listed_at, listed_gets}
 use Rattle.lane_deal.proofs.Peers.{is_seen, listed_peer}
 use Rattle.lane_deal.proofs.DealerLaws.{peers_push, listed_is_seen, seen_last}
-use Rattle.lane_deal.proofs.Lists.{back_of, front_of}
+use Rattle.unit_rings.proofs.Lists.{back_of, front_of}
 
 -- ---- lists
 

@@ -15,7 +15,7 @@ use Rattle.lane_deal.specs.Lanes.{number_of_peer, lane_units, seats_of_lane}
 use Rattle.lane_deal.specs.Numbers.{with_numbers}
 use Rattle.lane_deal.specs.Replayers.{LaneState, ReplayerState, LaneStandsFor, ReplayerStandsFor}
 use Rattle.lane_deal.specs.Rounds.{IsSettled}
-use Rattle.lane_deal.proofs.Lists.{all_filtered, all_more, map_alike}
+use Rattle.unit_rings.proofs.Lists.{all_filtered, all_more, map_alike}
 use Rattle.lane_deal.proofs.Peers.{is_seen, new_peers, numbers_stay, peers_of_chosen}
 use Rattle.lane_deal.proofs.SeatLaws.{seats_of_lanes}
 

@@ -3,12 +3,13 @@ use Rattle.std.proofs.Common.{◌≡◌, ◌+◌, ◌-◌, ◌^◌, ◌<◌, min
 use Rattle.std.proofs.lemmas.List.{append-nil}
 use Rattle.peer_units.specs.Events.{event_in}
 use Rattle.rtrb.specs.Ring.{SameConsumer, received as received_lists}
-use Rattle.lane_deal.specs.Plain.{UnitList, PeerUnit, Worker}
-use Rattle.lane_deal.specs.UnitLists.{IsUnitList, units_of, units_of_lists}
-use Rattle.lane_deal.specs.UnitRings.{received, known_items, known_lists}
-use Rattle.lane_deal.proofs.UnitLists.{units_pushed}
-use Rattle.lane_deal.specs.DecodedUnitLists.{AreDecoded, BatchState, head_of, no_batch}
-use Rattle.lane_deal.proofs.Batches.{AreDecoded-none, AreDecoded-more}
+use Rattle.unit_rings.specs.Plain.{UnitList, PeerUnit}
+use Rattle.lane_deal.specs.Plain.{Worker}
+use Rattle.unit_rings.specs.UnitLists.{IsUnitList, units_of, units_of_lists}
+use Rattle.unit_rings.specs.UnitRings.{received, known_items, known_lists}
+use Rattle.unit_rings.proofs.UnitLists.{units_pushed}
+use Rattle.unit_rings.specs.DecodedUnitLists.{AreDecoded, BatchState, head_of, no_batch}
+use Rattle.unit_rings.proofs.Batches.{AreDecoded-none, AreDecoded-more}
 use Rattle.lane_deal.specs.LaneWorkers.{Took, TookFront, TookSome, Takes, TakesAhead, Worked}
 
 module _ {S : Type 0} (stands_for : S → List PeerUnit → Type 0) where

@@ -7,7 +7,7 @@ use Rattle.peer_tables.specs.Tables.{Seat}
 use Rattle.bgp_prefix.specs.declared.family.Family.{Ghosts as AddressGhosts}
 use Rattle.bgp_prefix.specs.declared.map.PrefixMap.{Ghosts}
 use Rattle.adj_rib.specs.declared.routes.RouteId.{RouteId}
-use Rattle.lane_deal.specs.UnitRings.{ListConsumer}
+use Rattle.unit_rings.specs.UnitRings.{ListConsumer}
 use Rattle.lane_deal.specs.declared.seats.Seats.{Seats}
 use Rattle.lane_deal.specs.Plain.{Worker}
 

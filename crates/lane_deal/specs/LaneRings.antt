@@ -1,9 +1,10 @@
 -- A lane between two rounds, and its ring made anew.
 use Rattle.std.specs.Prelude.{◌≡◌, ℕ, ◌+◌, ◌-◌, ◌^◌, ◌<◌, ◌≤◌, min, List, [], ◌++◌, length, slice_index_or}
-use Rattle.lane_deal.specs.Plain.{PeerUnit, LaneSender, Worker}
+use Rattle.unit_rings.specs.Plain.{PeerUnit}
+use Rattle.lane_deal.specs.Plain.{LaneSender, Worker}
 use Rattle.lane_deal.specs.LaneSenders.{in_lane}
 use Rattle.lane_deal.specs.Pairs.{ChangedBelow}
-use Rattle.lane_deal.specs.UnitRings.{sent, known_free, received, known_items, ring_capacity, IsPair}
+use Rattle.unit_rings.specs.UnitRings.{sent, known_free, received, known_items, ring_capacity, IsPair}
 
 -- the two ends are those of one ring of this capacity, of which the worker knows all units and the dealer how many more
 -- may wait

@@ -1,12 +1,13 @@
 -- What one round does to all lanes.
 use Rattle.std.specs.Prelude.{◌≡◌, ℕ, ◌<◌, ◌≤◌, List, ◌++◌, length, slice_index_or, Option, Result}
 use Rattle.std.specs.List.{filter_map}
-use Rattle.lane_deal.specs.UnitRings.{sent}
+use Rattle.unit_rings.specs.UnitRings.{sent}
 use Rattle.mrt_frame.specs.declared.error.ReplayError.{ReplayError}
 use Rattle.mrt_body.specs.Units.{unit_of}
 use Rattle.mrt_body.specs.ToCome.{UnitsState}
 use Rattle.lane_deal.specs.Dealers.{Dealer}
-use Rattle.lane_deal.specs.Plain.{LaneSender, PeerUnit, Worker}
+use Rattle.unit_rings.specs.Plain.{PeerUnit}
+use Rattle.lane_deal.specs.Plain.{LaneSender, Worker}
 use Rattle.lane_deal.specs.declared.step.Step.{Step}
 use Rattle.lane_deal.specs.DealerSteps.{Deals}
 use Rattle.lane_deal.specs.LaneSenders.{in_lane, room_of}

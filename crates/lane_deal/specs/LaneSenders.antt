@@ -1,7 +1,8 @@
 -- What the dealer does in a round.
 use Rattle.std.specs.Prelude.{◌≡◌, ℕ, zero, suc, ◌+◌, ◌<◌, ◌≤◌, List, [], ◌∷◌, ◌++◌, length, filter, ◌==◌, slice_index_or}
-use Rattle.lane_deal.specs.UnitRings.{sent, known_free, SameProducer}
-use Rattle.lane_deal.specs.Plain.{PeerUnit, LaneSender}
+use Rattle.unit_rings.specs.UnitRings.{sent, known_free, SameProducer}
+use Rattle.unit_rings.specs.Plain.{PeerUnit}
+use Rattle.lane_deal.specs.Plain.{LaneSender}
 
 -- the items whose peer has this lane, in order
 abbrev pub in_lane : (ℕ → ℕ) → ℕ → List PeerUnit → List PeerUnit

@@ -2,9 +2,10 @@
 use Rattle.std.specs.Prelude.{◌≡◌, ◌+◌, ◌-◌, ◌^◌, ◌<◌, min, List, ◌++◌, length}
 use mathlib.Core.List.{IsPrefix}
 use Rattle.rtrb.specs.Ring.{SameConsumer}
-use Rattle.lane_deal.specs.DecodedUnitLists.{AreDecoded, BatchState}
-use Rattle.lane_deal.specs.Plain.{PeerUnit, Worker}
-use Rattle.lane_deal.specs.UnitRings.{received, known_items}
+use Rattle.unit_rings.specs.DecodedUnitLists.{AreDecoded, BatchState}
+use Rattle.unit_rings.specs.Plain.{PeerUnit}
+use Rattle.lane_deal.specs.Plain.{Worker}
+use Rattle.unit_rings.specs.UnitRings.{received, known_items}
 
 module _ {S : Type 0} (stands_for : S → List PeerUnit → Type 0) where
   -- the worker took these items, in order, into its sessions

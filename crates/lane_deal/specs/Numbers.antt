@@ -3,7 +3,7 @@ use Rattle.std.specs.Prelude.{List, map}
 use Rattle.peer_units.specs.declared.unit.PeerKey.{PeerKey}
 use Rattle.peer_units.specs.Plain.{Unit as ReplayUnit}
 use Rattle.peer_tables.specs.Numbers.{number_in}
-use Rattle.lane_deal.specs.Plain.{PeerUnit}
+use Rattle.unit_rings.specs.Plain.{PeerUnit}
 
 -- a unit with its peer's number
 abbrev pub with_number : List PeerKey → ReplayUnit → PeerUnit

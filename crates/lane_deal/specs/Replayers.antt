@@ -8,7 +8,7 @@ use Rattle.peer_units.specs.declared.unit.PeerKey.{PeerKey}
 use Rattle.peer_units.specs.Plain.{Unit as ReplayUnit}
 use Rattle.peer_tables.specs.Peers.{peers_of}
 use Rattle.peer_tables.specs.Tables.{Seat, seat_routes}
-use Rattle.lane_deal.specs.Plain.{PeerUnit}
+use Rattle.unit_rings.specs.Plain.{PeerUnit}
 use Rattle.lane_deal.specs.Lanes.{lane_units, seats_of_lane}
 use Rattle.lane_deal.specs.Numbers.{with_numbers}
 

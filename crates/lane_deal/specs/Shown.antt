@@ -1,12 +1,13 @@
 -- What the halves of lanes show.
 use Rattle.std.specs.Prelude.{Bool, List, [], ◌∷◌, map}
-use Rattle.lane_deal.specs.UnitRings.{sent, known_free, received, known_items}
+use Rattle.unit_rings.specs.UnitRings.{sent, known_free, received, known_items}
 use Rattle.peer_tables.specs.Seats.{seat_of}
 use Rattle.bgp_prefix.specs.declared.family.Family.{Ghosts as AddressGhosts}
 use Rattle.bgp_prefix.specs.declared.map.PrefixMap.{Ghosts}
 use Rattle.adj_rib.specs.declared.routes.RouteId.{RouteId}
 use Rattle.lane_deal.specs.Dealers.{Dealer}
-use Rattle.lane_deal.specs.Plain.{LaneSender, PeerUnit, Worker}
+use Rattle.unit_rings.specs.Plain.{PeerUnit}
+use Rattle.lane_deal.specs.Plain.{LaneSender, Worker}
 use Rattle.lane_deal.specs.declared.seats.Seats.{Seats}
 use Rattle.lane_deal.specs.Replayers.{LaneState, ReplayerState}
 use Rattle.lane_deal.specs.Seating.{HoldsUnits}

@@ -1,7 +1,6 @@
 //! A single worker that takes units as they are dealt, in the thread that deals: they are decoded from their records,
 //! and pass no ring.
 
-use crate::decoded_units::DecodedUnits;
 use crate::gate::Gate;
 use crate::receives::Receives;
 use crate::sessions::Sessions;
@@ -11,6 +10,7 @@ use bgp_update::Unicast;
 use peer_units::UnitRef;
 use std::alloc::Global;
 use std::sync::atomic::AtomicBool;
+use unit_rings::DecodedUnits;
 
 /// The number of units that are decoded before the first of them is taken: what their sessions will read is prefetched
 /// for all of them first.
@@ -25,9 +25,9 @@ pub struct Alone<S, F: Unicast> {
 
 impl<F: Unicast, S: Sessions<Addr = F>> Alone<S, F> {
     ghost use Rattle.std.specs.Prelude.{◌≡◌, ◌++◌, List, [], OnOk};
-    ghost use Rattle.lane_deal.specs.DecodedUnitLists.{no_batch};
+    ghost use Rattle.unit_rings.specs.DecodedUnitLists.{no_batch};
     ghost use Rattle.lane_deal.specs.LaneWorkers.{Takes, TakesAhead};
-    ghost use Rattle.lane_deal.specs.Plain.{PeerUnit};
+    ghost use Rattle.unit_rings.specs.Plain.{PeerUnit};
 
     /// The worker alone, for whom no unit waits.
     pub fn new(alloc: Global, worker: WorkerOf<S, F>) -> Alone<S, F>
@@ -72,7 +72,7 @@ impl<F: Unicast, S: Sessions<Addr = F>> Alone<S, F> {
 impl<F: Unicast, S: Sessions<Addr = F>> Receives for Alone<S, F> {
     ghost use Rattle.std.specs.Prelude.{◌^◌, ◌++◌, List};
     ghost use Rattle.lane_deal.specs.LaneWorkers.{TakesAhead};
-    ghost use Rattle.lane_deal.specs.Plain.{PeerUnit};
+    ghost use Rattle.unit_rings.specs.Plain.{PeerUnit};
 
     type Addr = F;
 

@@ -1,15 +1,15 @@
 ghost use Rattle.std.specs.Prelude.{◌≡◌, ◌≤◌, OnOk, IfOk, length, [], ℕ, ◌<◌, slice_index_or};
-ghost use Rattle.lane_deal.specs.UnitRings.{IsPair, ring_capacity};
+ghost use Rattle.unit_rings.specs.UnitRings.{IsPair, ring_capacity};
 ghost use Rattle.lane_deal.specs.LaneRings.{Renewed, RenewedAll, IsLane, AreFresh};
 
 use crate::lane_sender::{LaneSender, LaneSenderOf};
 use crate::sessions::Sessions;
-use crate::unit_producer::{UnitProducer, recycled_room};
 use crate::worker::{Worker, WorkerOf};
 use bgp_prefix::Memory;
 use bgp_update::Unicast;
 use rtrb::RingBuffer;
 use std::alloc::Global;
+use unit_rings::{UnitProducer, recycled_room};
 
 /// Compares both ends of the lane's ring, and moves the pending items to a new ring.
 pub fn renew<F: Unicast, S>(

@@ -3,14 +3,13 @@ ghost use Rattle.peer_units.specs.Payloads.{IsSmallUnit};
 
 use crate::gate::Gate;
 use crate::receives::Receives;
-use crate::unit_list::UnitList;
-use crate::unit_producer::UnitProducer;
 use bgp_prefix::{Memory, Prefix};
 use bgp_update::{Rules, Unicast};
 use peer_units::UnitRef;
 use rtrb::Consumer;
 use std::alloc::Global;
 use std::sync::atomic::{AtomicBool, Ordering};
+use unit_rings::{UnitList, UnitProducer};
 
 /// The maximum number of further looks for room: a round's end costs no more than these.
 const MOST_LOOKS: u32 = 1_000;
@@ -33,7 +32,7 @@ pub type LaneSenderOf<F> = LaneSender<Prefix<F>, Rules<F>>;
 
 impl<F: Unicast> LaneSender<Prefix<F>, Rules<F>> {
     ghost use Rattle.lane_deal.specs.LaneSenders.{Pushed};
-    ghost use Rattle.lane_deal.specs.UnitRings.{known_free};
+    ghost use Rattle.unit_rings.specs.UnitRings.{known_free};
 
     /// Looks this many times, until there is room for more than an eighth of the ring, or for more than `MOST_ROOM`
     /// units. Waits a little before each look. Returns whether there is any room at the end. If the round is

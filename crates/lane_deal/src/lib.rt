@@ -19,11 +19,6 @@
 //! - **Rings are made anew after each round**, with what waits moved over in order: then the producer's end knows how
 //!   much more may wait, and the consumer's all that waits. No claim rests on the round-over flag, on how often a
 //!   thread looks, or on how it pauses, which is up to the gate (`Idle::pause`, `Idle::wait_for_room`).
-//! - **A ring's item is a list of up to 32 units** whose bytes are in one block, so that a ring's position is exchanged
-//!   once for them all and no unit is an allocation. The producer counts units (`UnitProducer`): a round is blocked by
-//!   units, not lists, and contracts see a ring of units. A listed unit of IPv4 has 32 bytes: the records and peers of
-//!   a list are listed once. Lists go back by a second ring, since a worker that freed them would lock the dealer's
-//!   heap; the dealer writes to all of one before it fills it again, so that the misses overlap.
 //! - **All units of a run are of one family of addresses.** Its mark takes no room in a unit, so plain data is generic
 //!   in the prefix and the mark, and contracts see the prefixes of either family alike.
 //! - **A round's two closures have no type parameter in common** (`Deals`, `Works`), since the borrow checker covers no
@@ -43,14 +38,11 @@ mod alone;
 mod collecting;
 mod dealer;
 mod dealing;
-mod decoded_units;
 mod gate;
 mod halves;
 mod holding;
 mod lane;
 mod lane_sender;
-mod listed_unit;
-mod peer_unit;
 mod plan;
 mod receives;
 mod replayer;
@@ -58,17 +50,12 @@ mod round;
 mod seats;
 mod sessions;
 mod step;
-mod unit_head;
-mod unit_list;
-mod unit_producer;
 mod worker;
 
 pub use collecting::collect_lanes;
 pub use dealing::{ByTurns, Dealing};
-pub use decoded_units::DecodedUnits;
 pub use gate::{Gate, Idle, NoGate};
 pub use holding::{HoldsSeats, exchange_seats};
-pub use peer_unit::{PeerUnit, PeerUnitOf};
 pub use plan::Plan;
 pub use replayer::Replayer;
 pub use seats::Seats;

@@ -12,7 +12,7 @@ pub trait Receives {
     ghost use Rattle.std.specs.Prelude.{◌≡◌, ◌≤◌, ◌<◌, ◌+◌, ℕ, List, [], ◌∷◌, ◌++◌, true, false, OnOk, length};
     ghost use Rattle.peer_units.specs.Payloads.{IsSmallUnit};
     ghost use Rattle.lane_deal.specs.LaneSenders.{in_lane};
-    ghost use Rattle.lane_deal.specs.Plain.{PeerUnit};
+    ghost use Rattle.unit_rings.specs.Plain.{PeerUnit};
 
     /// The family of their prefixes.
     type Addr: Unicast;

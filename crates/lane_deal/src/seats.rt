@@ -5,13 +5,11 @@ ghost use Rattle.std.specs.List.{list_any};
 ghost use Rattle.peer_units.specs.DecodedEvents.{Means, event_of};
 ghost use Rattle.peer_units.specs.Plain.{Unit as ReplayUnit};
 ghost use Rattle.peer_tables.specs.Seats.{seat_of};
-ghost use Rattle.lane_deal.specs.DecodedUnitLists.{IsDecodedAt};
-ghost use Rattle.lane_deal.specs.Plain.{PeerUnit};
+ghost use Rattle.unit_rings.specs.DecodedUnitLists.{IsDecodedAt};
+ghost use Rattle.unit_rings.specs.Plain.{PeerUnit};
 ghost use Rattle.lane_deal.specs.Seating.{AreIndexed, SeatFor, TakenAt};
 
-use crate::decoded_units::DecodedUnits;
 use crate::sessions::Sessions;
-use crate::unit_head::UnitHead;
 use adj_rib::{RouteId, Session};
 use bgp_prefix::{Memory, Prefix, PrefixMap};
 use bgp_update::Unicast;
@@ -19,6 +17,7 @@ use peer_tables::Seated;
 use peer_units::{EventRef, PeerKey};
 use std::alloc::Global;
 use std::mem;
+use unit_rings::{DecodedUnits, UnitHead};
 
 /// For how many units of a list routes are prefetched: as many as a list usually has.
 const MOST_NEAR: usize = 32;

@@ -1,13 +1,13 @@
-use crate::decoded_units::DecodedUnits;
 use bgp_prefix::Memory;
 use bgp_update::Unicast;
 use std::alloc::Global;
+use unit_rings::DecodedUnits;
 
 /// The sessions of one lane.
 pub trait Sessions {
     ghost use Rattle.std.specs.Prelude.{◌<◌, List, [], ◌∷◌, ◌++◌, OnOk, length};
-    ghost use Rattle.lane_deal.specs.DecodedUnitLists.{IsDecodedAt};
-    ghost use Rattle.lane_deal.specs.Plain.{PeerUnit};
+    ghost use Rattle.unit_rings.specs.DecodedUnitLists.{IsDecodedAt};
+    ghost use Rattle.unit_rings.specs.Plain.{PeerUnit};
 
     /// The family of their prefixes, which is that of the units.
     type Addr: Unicast;

@@ -1,22 +1,20 @@
 ghost use Rattle.std.specs.Prelude.{◌≡◌, Ok, OnOk, List, [], length, ◌<◌, true, false};
 ghost use Rattle.std.specs.List.{AllZip};
 ghost use Rattle.std.specs.Thread.{IsSync, IsSend};
-ghost use Rattle.lane_deal.specs.DecodedUnitLists.{AreDecoded};
-ghost use Rattle.lane_deal.specs.Plain.{PeerUnit};
-ghost use Rattle.lane_deal.specs.UnitLists.{units_of};
+ghost use Rattle.unit_rings.specs.DecodedUnitLists.{AreDecoded};
+ghost use Rattle.unit_rings.specs.Plain.{PeerUnit};
+ghost use Rattle.unit_rings.specs.UnitLists.{units_of};
 
-use crate::decoded_units::DecodedUnits;
 use crate::gate::Gate;
 use crate::halves::Works;
-use crate::peer_unit::NonEmptyLists;
 use crate::sessions::Sessions;
-use crate::unit_list::{UnitList, UnitListOf};
 use bgp_prefix::{Memory, Prefix};
 use bgp_update::{Rules, Unicast};
 use rtrb::{Consumer, Producer};
 use std::alloc::Global;
 use std::sync::atomic::{AtomicBool, Ordering};
 use std::thread::{Threads, join_mut};
+use unit_rings::{DecodedUnits, NonEmptyLists, UnitList, UnitListOf};
 
 /// The taking half of a lane.
 #[derive(Drop)]
@@ -57,7 +55,7 @@ fn decode_all<F: Unicast>(
 
 impl<F: Unicast, S: Sessions<Addr = F>> Worker<S, Prefix<F>, Rules<F>> {
     ghost use Rattle.lane_deal.specs.LaneWorkers.{Took, TookFront, TookSome, Takes};
-    ghost use Rattle.lane_deal.specs.UnitRings.{known_items, known_lists, received};
+    ghost use Rattle.unit_rings.specs.UnitRings.{known_items, known_lists, received};
 
     fn take_all_known<G: Gate>(
         &mut self,

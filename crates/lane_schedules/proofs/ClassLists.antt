@@ -5,7 +5,7 @@ use Rattle.std.proofs.lemmas.Bool.{eq-eqb, ne_eqb, cases_lt}
 use Rattle.std.proofs.lemmas.List.{append-nil}
 use Rattle.std.proofs.lemmas.List.Elements.{filter-append}
 use Rattle.std.proofs.lemmas.Map.Views.{any-filter_same}
-use Rattle.lane_deal.proofs.Lists.{all_more, all_pass, all_push, none_pass}
+use Rattle.unit_rings.proofs.Lists.{all_more, all_pass, all_push, none_pass}
 use Rattle.lane_deal.proofs.Classes.{of_class}
 
 -- ---- filters

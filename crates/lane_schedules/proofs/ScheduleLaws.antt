@@ -9,7 +9,7 @@ use Rattle.lane_schedules.specs.declared.turn.Turn.{Turn}
 use Rattle.lane_schedules.specs.declared.turn.Turn.TheVariants.{Deal, Take}
 use Rattle.lane_deal.specs.Lanes.{lane_of_unit, lane_units}
 use Rattle.lane_schedules.specs.Schedules.{LanesState, start, dealt, took, after_turn, after_turns, IsShared}
-use Rattle.lane_deal.proofs.Lists.{all_more, filter_alike}
+use Rattle.unit_rings.proofs.Lists.{all_more, filter_alike}
 use Rattle.lane_deal.proofs.Classes.{of_class}
 use Rattle.lane_deal.proofs.Peers.{numbers_stay}
 

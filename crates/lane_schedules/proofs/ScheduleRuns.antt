@@ -9,7 +9,7 @@ use Rattle.peer_tables.specs.Peers.{peer_eq, peers_of}
 use Rattle.bgp_prefix.specs.declared.family.Family.{Ghosts as AddressGhosts}
 use Rattle.bgp_prefix.specs.declared.map.PrefixMap.{Ghosts}
 use Rattle.adj_rib.specs.declared.routes.RouteId.{RouteId}
-use Rattle.lane_deal.specs.Plain.{PeerUnit}
+use Rattle.unit_rings.specs.Plain.{PeerUnit}
 use Rattle.lane_schedules.specs.declared.schedule.OneLane.{OneLane}
 use Rattle.lane_deal.specs.Lanes.{number_of_peer, lane_of_unit}
 use Rattle.peer_tables.specs.Numbers.{NumbersPeer}
@@ -18,7 +18,7 @@ use Rattle.lane_schedules.specs.Schedules.{LanesState, dealt, took, start}
 use Rattle.lane_deal.specs.Shown.{SeatsHold}
 use Rattle.lane_schedules.specs.ShownLanes.{LaneShows, LanesShow}
 use Rattle.peer_tables.proofs.PeerPositions.{listed_now}
-use Rattle.lane_deal.proofs.Lists.{all_push}
+use Rattle.unit_rings.proofs.Lists.{all_push}
 use Rattle.lane_deal.proofs.DealerLaws.{numbered_stay, AreListed, listed_more, peers_push}
 
 -- ---- numbers

@@ -22,7 +22,7 @@ use Rattle.peer_tables.specs.Tables.{Seat, TablesState, tables_of}
 use Rattle.bgp_prefix.specs.declared.family.Family.{Ghosts as AddressGhosts}
 use Rattle.bgp_prefix.specs.declared.map.PrefixMap.{Ghosts}
 use Rattle.adj_rib.specs.declared.routes.RouteId.{RouteId}
-use Rattle.lane_deal.specs.Plain.{PeerUnit}
+use Rattle.unit_rings.specs.Plain.{PeerUnit}
 use Rattle.lane_schedules.specs.declared.schedule.OneLane.{OneLane}
 use Rattle.lane_deal.specs.Lanes.{number_of_peer, lane_of_unit, seats_of_lane}
 use Rattle.peer_tables.specs.Numbers.{number_in}
@@ -33,7 +33,7 @@ use Rattle.lane_deal.specs.Seating.{seats_by, HoldsUnits}
 use Rattle.lane_schedules.specs.ShownLanes.{LaneShows, LanesShow}
 use Rattle.lane_schedules.specs.TakenTables.{units_taken, seats_taken, tables_taken}
 use Rattle.lane_deal.proofs.Bridges.{units_numbered}
-use Rattle.lane_deal.proofs.Lists.{all_filtered, all_mapped, all_more, all_of, all_pass, front_of, kept_pass, map_alike, none_pass}
+use Rattle.unit_rings.proofs.Lists.{all_filtered, all_mapped, all_more, all_of, all_pass, front_of, kept_pass, map_alike, none_pass}
 use Rattle.lane_deal.proofs.Classes.{of_class, by_class, by_class-IsPermutation}
 use Rattle.lane_schedules.proofs.ClassLists.{any_alike, filters_swapped, of_lists, in_lists}
 use Rattle.lane_deal.proofs.HandingIn.{flat_each}

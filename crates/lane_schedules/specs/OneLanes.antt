@@ -5,7 +5,7 @@ use Rattle.peer_tables.specs.Tables.{Seat}
 use Rattle.bgp_prefix.specs.declared.family.Family.{Ghosts as AddressGhosts}
 use Rattle.bgp_prefix.specs.declared.map.PrefixMap.{Ghosts}
 use Rattle.adj_rib.specs.declared.routes.RouteId.{RouteId}
-use Rattle.lane_deal.specs.Plain.{PeerUnit}
+use Rattle.unit_rings.specs.Plain.{PeerUnit}
 use Rattle.lane_schedules.specs.declared.schedule.OneLane.{OneLane}
 use Rattle.lane_deal.specs.Collecting.{seats_held}
 

@@ -6,7 +6,7 @@ use Rattle.bgp_prefix.specs.declared.family.Family.{Ghosts as AddressGhosts}
 use Rattle.bgp_prefix.specs.declared.map.PrefixMap.{Ghosts}
 use Rattle.bgp_update.specs.declared.unicast.Unicast.{Ghosts as UnicastGhosts}
 use Rattle.adj_rib.specs.declared.routes.RouteId.{RouteId}
-use Rattle.lane_deal.specs.Plain.{PeerUnit}
+use Rattle.unit_rings.specs.Plain.{PeerUnit}
 use Rattle.lane_schedules.specs.declared.schedule.OneLane.{OneLane}
 use Rattle.lane_schedules.specs.declared.scheduled.Lanes.{Lanes}
 use Rattle.lane_deal.specs.Numbers.{with_numbers}

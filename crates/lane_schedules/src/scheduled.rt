@@ -9,10 +9,11 @@ use crate::schedule::OneLane;
 use adj_rib::RouteId;
 use bgp_prefix::{Memory, PrefixMap};
 use bgp_update::Unicast;
-use lane_deal::{PeerUnitOf, collect_lanes};
+use lane_deal::collect_lanes;
 use peer_tables::Tables;
 use std::alloc::Global;
 use std::collections::VecDeque;
+use unit_rings::PeerUnitOf;
 
 /// Lanes on one thread. No peer's number appears twice among their sessions.
 #[derive(Drop)]

@@ -22,8 +22,8 @@ use Rattle.peer_tables.proofs.StandingLaws.{peer_seat, seats_from}
 use Rattle.report_request.specs.Plain.{Layout, Request}
 use Rattle.lane_deal.specs.declared.plan.Plan.{Plan}
 use Rattle.mrt_replay.specs.Reports.{listing_of, told_lines, text_by, text, report, listed_faults, AreRounds, RoundsOf}
-use Rattle.mrt_replay.specs.Tellings.{watch_faults, watch_routes}
-use Rattle.mrt_replay.specs.declared.summary.Summary.{Summary}
+use Rattle.history_replay.specs.Tellings.{watch_faults, watch_routes}
+use Rattle.replay_summary.specs.declared.summary.Summary.{Summary}
 use Rattle.mrt_replay.proofs.RunLaws.{length_in_order}
 
 -- ---- the report

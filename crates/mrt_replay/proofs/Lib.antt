@@ -1,4 +1,3 @@
-pub mod FilesTaken
 pub mod HeadlineLaws
 pub mod LanesTaken
 pub mod ReportLaws

@@ -27,8 +27,9 @@ use Rattle.lane_deal.specs.Replayers.{ReplayerState}
 use Rattle.lane_deal.specs.Rounds.{PlaysRound}
 use Rattle.lane_deal.proofs.Asking.{TakesUnits-none, TakesUnits-more, all_more_given}
 use Rattle.lane_deal.proofs.RoundLaws.{waiting_in, none_waits, waits_after, fills}
-use Rattle.mrt_replay.specs.Replays.{DealtAll, HasPlayed, StopsFiles}
-use Rattle.mrt_replay.proofs.FilesTaken.{none_known}
+use Rattle.history_replay.specs.FilesTaken.{StopsFiles}
+use Rattle.mrt_replay.specs.Replays.{DealtAll, HasPlayed}
+use Rattle.history_replay.proofs.FilesTaken.{none_known}
 use Rattle.mrt_replay.proofs.LanesTaken.{units_to_deal, played_took}
 
 abbrev Known : Type 0

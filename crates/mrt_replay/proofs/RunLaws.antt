@@ -24,7 +24,7 @@ use Rattle.report_request.specs.Plain.{Layout, Request}
 use Rattle.mrt_replay.specs.Reports.{lines_of, listing_of, text_by, text, report, listed_faults}
 use Rattle.std.proofs.KnownBytes.{Keeps-refl}
 use Rattle.mrt_replay.specs.Premises.{AreHonest}
-use Rattle.mrt_replay.specs.Replays.{StopsReplay}
+use Rattle.history_replay.specs.FilesTaken.{StopsReplay}
 use Rattle.mrt_replay.specs.Headline.{RunState, IsStopped}
 
 -- the tables of the chosen prefixes of files

@@ -8,7 +8,7 @@ use Rattle.mrt_frame.specs.declared.error.ReplayError.TheVariants as errors
 use Rattle.peer_units.specs.Choices.{UnitSelection}
 use Rattle.lane_deal.specs.declared.plan.Plan.{Plan}
 use Rattle.report_request.specs.Plain.{Layout, Request}
-use Rattle.mrt_replay.specs.declared.summary.Summary.{Summary}
+use Rattle.replay_summary.specs.declared.summary.Summary.{Summary}
 use Rattle.mrt_replay.specs.Reports.{report, IsSummary}
 use Rattle.mrt_replay.specs.Premises.{AreSound, AreWithin, AreHonest}
 

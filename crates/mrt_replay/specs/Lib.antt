@@ -2,5 +2,3 @@ pub mod Headline
 pub mod Premises
 pub mod Replays
 pub mod Reports
-pub mod Statuses
-pub mod Tellings

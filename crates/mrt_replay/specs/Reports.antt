@@ -19,7 +19,7 @@ use Rattle.peer_units.specs.Choices.{UnitSelection, is_open}
 use Rattle.lane_deal.specs.declared.plan.Plan.{Plan}
 use Rattle.report_request.specs.Plain.{Layout, Request}
 use Rattle.report_request.specs.declared.request.Request.TheVariants as request
-use Rattle.mrt_replay.specs.declared.summary.Summary.{Summary}
+use Rattle.replay_summary.specs.declared.summary.Summary.{Summary}
 
 -- from when on what happened is counted, if a second or prefixes are named: otherwise the tables counted it
 abbrev pub counting_of : Option ℕ → List PrefixChoice → Option Listing

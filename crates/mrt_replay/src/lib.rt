@@ -15,13 +15,8 @@
 //!   `WritesFront`, which say something about known bytes only.
 #![tactic(auto)]
 
-mod history;
 mod idle;
 mod replay;
 mod replayed;
-mod summary;
-mod told;
 
-pub use idle::Idle;
 pub use replay::run;
-pub use summary::{Summary, status};

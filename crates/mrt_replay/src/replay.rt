@@ -10,18 +10,17 @@ ghost use Rattle.mrt_replay.specs.Headline.{IsPromised, run_on};
 ghost use Rattle.mrt_replay.specs.Reports.{counting_of, lines_of, listed_by, listing_of, told_lines};
 ghost use Rattle.report_request.specs.Requests.{request_of};
 
-use crate::history::{count_faults, count_routes, list_history};
 use crate::idle::{idle_of_tables, idle_of_watches};
 use crate::replayed::replay;
-use crate::summary::Summary;
-use crate::told::Told;
 use adj_rib::RouteId;
 use bgp_prefix::{Family, PrefixMap};
 use bgp_update::Unicast;
+use history_replay::{Told, count_faults, count_routes, list_history};
 use lane_deal::{Dealing, Gate, Plan};
 use mrt_frame::{ReplayError, Sink, Source};
 use peer_tables::{Listed, Listing, Watched};
 use peer_units::{ChosenPrefixes, Damage, Selection};
+use replay_summary::Summary;
 use report_request::{LayoutOf, Request};
 use rib_report::{
     Tables, WrittenAddress, churn, faults, list_tables, matches, origins, peers, seen, visibility,

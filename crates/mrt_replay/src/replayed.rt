@@ -5,7 +5,8 @@ ghost use Rattle.mrt_frame.specs.declared.read_state.ReadState.TheVariants.{Read
 ghost use Rattle.lane_deal.specs.declared.step.Step.TheVariants.{End};
 ghost use Rattle.lane_deal.specs.Plans.{IsPlan};
 ghost use Rattle.lane_deal.specs.Playing.{shown};
-ghost use Rattle.mrt_replay.specs.Replays.{HasPlayed, IsReplayOf, StopsFiles, StopsReplay};
+ghost use Rattle.history_replay.specs.FilesTaken.{StopsFiles, StopsReplay};
+ghost use Rattle.mrt_replay.specs.Replays.{HasPlayed, IsReplayOf};
 
 use adj_rib::RouteId;
 use bgp_prefix::PrefixMap;

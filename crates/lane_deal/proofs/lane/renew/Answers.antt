@@ -1,7 +1,7 @@
 use Rattle.std.proofs.Common.{◌≡◌, ◌+◌, ◌++◌, [], length, refl, sym, ap, ◌∙◌, append_assoc, arith, length-append}
 use Rattle.std.proofs.lemmas.List.{append-nil}
-use Rattle.lane_deal.specs.UnitLists.{units_of, units_of_lists}
-use Rattle.lane_deal.specs.UnitRings.{sent, received, known_items, known_free, ring_capacity}
+use Rattle.unit_rings.specs.UnitLists.{units_of, units_of_lists}
+use Rattle.unit_rings.specs.UnitRings.{sent, received, known_items, known_free, ring_capacity}
 use Rattle.lane_deal.proofs.lane.renew.Goals as goal
 
 pub move_lists-requires-clause-room : goal.move_lists-requires-clause-room

@@ -1,8 +1,8 @@
 use Rattle.std.proofs.Common.{◌≡◌, ◌+◌, [], ◌∷◌, ◌++◌, take, ap, ◌∙◌, arith}
 use Rattle.std.proofs.lemmas.List.{take_more}
-use Rattle.lane_deal.specs.UnitLists.{units_of}
-use Rattle.lane_deal.specs.Plain.{PeerUnit}
-use Rattle.lane_deal.proofs.Batches.{AreDecoded-none, AreDecoded-more}
+use Rattle.unit_rings.specs.UnitLists.{units_of}
+use Rattle.unit_rings.specs.Plain.{PeerUnit}
+use Rattle.unit_rings.proofs.Batches.{AreDecoded-none, AreDecoded-more}
 use Rattle.lane_deal.proofs.worker.decode_all.Goals as goal
 
 pub loop-at-init : goal.loop-at-init

@@ -1,6 +1,6 @@
 use Rattle.std.proofs.Common.{take}
-use Rattle.lane_deal.specs.DecodedUnitLists.{AreDecoded}
-use Rattle.lane_deal.specs.UnitLists.{units_of}
+use Rattle.unit_rings.specs.DecodedUnitLists.{AreDecoded}
+use Rattle.unit_rings.specs.UnitLists.{units_of}
 use Rattle.lane_deal.proofs.worker.decode_all.Given as goal
 
 abbrev pub invariant-loop-at : goal.invariant-loop-at

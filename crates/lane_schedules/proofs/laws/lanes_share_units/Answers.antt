@@ -1,5 +1,5 @@
 use Rattle.lane_deal.specs.Lanes.{lane_of_unit, number_of_peer}
-use Rattle.lane_deal.proofs.Lists.{all_of}
+use Rattle.unit_rings.proofs.Lists.{all_of}
 use Rattle.lane_deal.proofs.Classes.{by_class-IsPermutation}
 use Rattle.lane_schedules.proofs.laws.lanes_share_units.Goals as goal
 

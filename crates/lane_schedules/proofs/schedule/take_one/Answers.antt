@@ -1,5 +1,5 @@
 use Rattle.std.proofs.Common.{[], ◌∷◌, refl, arith}
-use Rattle.lane_deal.proofs.Batches.{AreDecoded-none, AreDecoded-more, decoded_at, decoded_count}
+use Rattle.unit_rings.proofs.Batches.{AreDecoded-none, AreDecoded-more, decoded_at, decoded_count}
 use Rattle.lane_schedules.proofs.ScheduleRuns.{shows_one}
 use Rattle.lane_schedules.proofs.schedule.take_one.Goals as goal
 

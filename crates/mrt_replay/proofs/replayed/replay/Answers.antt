@@ -11,7 +11,7 @@ use Rattle.lane_deal.specs.Replayers.{ReplayerStandsFor}
 use Rattle.mrt_frame.specs.declared.read_state.ReadState.{ReadState}
 use Rattle.mrt_frame.specs.declared.read_state.ReadState.TheVariants.{Ended, Spent}
 use Rattle.mrt_replay.specs.Replays.{DealtAll}
-use Rattle.mrt_replay.proofs.FilesTaken.{stops_replay, took_files, few_units_of, units_came, records_taken, aside_taken}
+use Rattle.history_replay.proofs.FilesTaken.{stops_replay, took_files, few_units_of, units_came, records_taken, aside_taken}
 use Rattle.mrt_replay.proofs.LanesTaken.{all_dealt}
 use Rattle.mrt_replay.proofs.RoundsTaken.{few_in_all, two_in_all, enough_in_all}
 use Rattle.mrt_replay.proofs.replayed.replay.Goals as goal

@@ -1,5 +1,5 @@
 use Rattle.std.proofs.Common.{sym, ap, ◌∙◌, arith}
-use Rattle.lane_deal.specs.UnitRings.{known_free}
+use Rattle.unit_rings.specs.UnitRings.{known_free}
 use Rattle.lane_deal.proofs.Deals.{room_at, room_set}
 use Rattle.lane_deal.proofs.lane_sender.VecLaneSenderOfReceives.has_room.Goals as goal
 

@@ -1,5 +1,5 @@
 use Rattle.std.proofs.Common.{ap, arith}
-use Rattle.lane_deal.specs.UnitRings.{known_free}
+use Rattle.unit_rings.specs.UnitRings.{known_free}
 use Rattle.lane_deal.proofs.Deals.{room_at}
 use Rattle.lane_deal.proofs.lane_sender.VecLaneSenderOfReceives.receive.Goals as goal
 

@@ -1,5 +1,5 @@
 use Rattle.std.proofs.Common.{◌≡◌, ◌+◌, length, ap, subst, arith}
-use Rattle.lane_deal.specs.UnitRings.{known_free, ring_capacity}
+use Rattle.unit_rings.specs.UnitRings.{known_free, ring_capacity}
 use Rattle.lane_deal.proofs.Plays.{all_free, settled_free}
 use Rattle.lane_deal.proofs.replayer.Replayer.is_settled.Goals as goal
 

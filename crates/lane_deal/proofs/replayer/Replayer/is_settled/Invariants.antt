@@ -1,6 +1,6 @@
 use Rattle.std.proofs.Common.{◌≡◌, ℕ, ◌<◌, get_or}
 use Rattle.lane_deal.specs.Plain.{LaneSender}
-use Rattle.lane_deal.specs.UnitRings.{known_free, ring_capacity}
+use Rattle.unit_rings.specs.UnitRings.{known_free, ring_capacity}
 use Rattle.lane_deal.proofs.replayer.Replayer.is_settled.Given as goal
 
 abbrev pub invariant-loop-sender : goal.invariant-loop-sender

@@ -1,7 +1,7 @@
 use Rattle.std.proofs.Common.{sym, ap, ◌∙◌}
 use Rattle.peer_units.specs.Events.{event_in}
 use Rattle.peer_units.specs.DecodedEvents.{Means, event_of}
-use Rattle.lane_deal.specs.DecodedUnitLists.{head_of}
+use Rattle.unit_rings.specs.DecodedUnitLists.{head_of}
 use Rattle.lane_deal.proofs.seats.Seats.take_apart.Goals as goal
 
 pub returns : goal.returns

@@ -2,7 +2,7 @@ use Rattle.std.proofs.Common.{◌∙◌, map, refl, ap, sym, subst}
 use Rattle.peer_units.specs.Events.{event_in}
 use Rattle.peer_tables.specs.Seats.{seat_of}
 use Rattle.peer_units.specs.DecodedEvents.{Means, event_of}
-use Rattle.lane_deal.specs.DecodedUnitLists.{head_of}
+use Rattle.unit_rings.specs.DecodedUnitLists.{head_of}
 use Rattle.lane_deal.specs.Seating.{SeatFor}
 use Rattle.lane_deal.proofs.SeatLists.{HoldsUnits-taken}
 use Rattle.lane_deal.proofs.seats.SeatsSessions.take.Goals as goal

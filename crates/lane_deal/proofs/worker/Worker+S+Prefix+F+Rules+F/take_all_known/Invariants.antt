@@ -1,5 +1,5 @@
 use Rattle.std.proofs.Common.{length}
-use Rattle.lane_deal.specs.UnitRings.{known_items}
+use Rattle.unit_rings.specs.UnitRings.{known_items}
 use Rattle.lane_deal.proofs.Working.{TookKnown}
 use Rattle.lane_deal.proofs.worker.Worker+S+Prefix+F+Rules+F.take_all_known.Given as goal
 

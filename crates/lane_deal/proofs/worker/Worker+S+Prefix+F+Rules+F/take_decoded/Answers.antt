@@ -1,9 +1,9 @@
 use Rattle.std.proofs.Common.{◌≡◌, ◌+◌, [], ◌∷◌, ◌++◌, length, take, refl, ap, ◌∙◌, arith, slice_index_or}
 use Rattle.std.proofs.lemmas.List.{take_more}
 use Rattle.std.proofs.Math.Seq.{take-length}
-use Rattle.lane_deal.specs.Plain.{PeerUnit}
-use Rattle.lane_deal.proofs.Batches.{decoded_at, decoded_count}
-use Rattle.lane_deal.proofs.Lists.{some_item}
+use Rattle.unit_rings.specs.Plain.{PeerUnit}
+use Rattle.unit_rings.proofs.Batches.{decoded_at, decoded_count}
+use Rattle.unit_rings.proofs.Lists.{some_item}
 use Rattle.lane_deal.proofs.Working.{Takes-more}
 use Rattle.lane_deal.proofs.worker.Worker+S+Prefix+F+Rules+F.take_decoded.Goals as goal
 

@@ -1,7 +1,7 @@
 use Rattle.std.proofs.Common.{List, take}
-use Rattle.lane_deal.specs.DecodedUnitLists.{AreDecoded}
+use Rattle.unit_rings.specs.DecodedUnitLists.{AreDecoded}
 use Rattle.lane_deal.specs.LaneWorkers.{Takes}
-use Rattle.lane_deal.specs.Plain.{PeerUnit}
+use Rattle.unit_rings.specs.Plain.{PeerUnit}
 use Rattle.lane_deal.proofs.worker.Worker+S+Prefix+F+Rules+F.take_decoded.Given as goal
 
 abbrev pub invariant-loop-at : goal.invariant-loop-at

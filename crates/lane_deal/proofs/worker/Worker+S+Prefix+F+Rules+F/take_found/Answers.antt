@@ -1,6 +1,6 @@
 use Rattle.std.proofs.Common.{length, ap, arith, length-append}
-use Rattle.lane_deal.specs.UnitLists.{units_of_lists}
-use Rattle.lane_deal.specs.UnitRings.{received}
+use Rattle.unit_rings.specs.UnitLists.{units_of_lists}
+use Rattle.unit_rings.specs.UnitRings.{received}
 use Rattle.lane_deal.proofs.worker.Worker+S+Prefix+F+Rules+F.take_found.Goals as goal
 
 pub returns-clause-some : goal.returns-clause-some

@@ -1,0 +1,2 @@
+pub mod FilesTaken
+pub mod Tellings

@@ -1,9 +1,0 @@
--- The program's status after a run.
-use Rattle.std.specs.Prelude.{ℕ, ◌==◌, Result, Ok, Err, if◌then◌else◌}
-use Rattle.mrt_frame.specs.declared.error.ReplayError.{ReplayError}
-use Rattle.mrt_replay.specs.declared.summary.Summary.{Summary}
-
--- 0 where no fault is listed, 1 where some are, 3 after an error
-abbrev pub status_of : Result Summary ReplayError → ℕ
-status_of (Ok summary) = if summary.damaged == 0 then 0 else 1
-status_of (Err error) = 3

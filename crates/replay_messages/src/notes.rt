@@ -1,0 +1,237 @@
+//! Notes on the dumps of a complete run, on standard error: what about them is likely not meant. A note is a line that
+//! begins with two spaces and `note: `; no report and no status depends on it.
+
+use command_line::{AddressFamily, FileName};
+use mrt_body::Marked;
+use peer_units::{PeerAddr, PeerKey, RibRule};
+use replay_io::Input;
+use replay_summary::{Idle, Summary};
+use std::alloc::{AllocError, Global};
+
+/// The most files or peers that a note names.
+const MOST_NAMES: usize = 5;
+
+/// Names, split by commas. Further ones are counted.
+#[derive(Drop)]
+struct Names {
+    text: String,
+    count: usize,
+}
+
+impl Names {
+    fn new(alloc: Global) -> Names {
+        Names {
+            text: String::new(alloc),
+            count: 0,
+        }
+    }
+
+    /// Adds a name, if there are fewer than five.
+    fn add(&mut self, name: &str) -> Result<(), AllocError> {
+        if self.count < MOST_NAMES {
+            if self.count > 0 {
+                self.text.push_str(", ")?;
+            }
+            self.text.push_str(name)?;
+        }
+        self.count = self.count.saturating_add(1);
+        Ok(())
+    }
+
+    /// Adds how many names were left out.
+    fn end(&mut self, alloc: Global) -> Result<(), AllocError> {
+        let others = self.count.saturating_sub(MOST_NAMES);
+        if others > 0 {
+            let more = format!(in alloc; " and {others} more")?;
+            self.text.push_str(more.as_str())?;
+        }
+        Ok(())
+    }
+}
+
+/// Returns the name of the dump at this index.
+fn name_of(alloc: Global, inputs: &[Input<'_, '_>], file: usize) -> Result<String, AllocError> {
+    let name = match inputs.get(file) {
+        Some(input) => input.device().name(),
+        None => "",
+    };
+    let shown = FileName(name);
+    Ok(format!(in alloc; "{shown}")?)
+}
+
+/// Returns the names of the files that have such records.
+fn names_of(
+    alloc: Global,
+    marked: &Marked,
+    inputs: &[Input<'_, '_>],
+) -> Result<String, AllocError> {
+    let mut names = Names::new(alloc);
+    for file in marked.first_files() {
+        names.add(name_of(alloc, inputs, *file)?.as_str())?;
+    }
+    names.count = marked.files();
+    names.end(alloc)?;
+    Ok(names.text)
+}
+
+/// Returns a peer as reports print it, with its address in full: its AS number, a space and its address.
+fn peer_text(alloc: Global, peer: &PeerKey) -> Result<String, AllocError> {
+    let asn = peer.asn;
+    match peer.addr {
+        PeerAddr::V4(addr) => {
+            let [a, b, c, d] = addr.to_be_bytes();
+            Ok(format!(in alloc; "{asn} {a}.{b}.{c}.{d}")?)
+        }
+        PeerAddr::V6(addr) => {
+            let mut text = format!(in alloc; "{asn} ")?;
+            for group in 0u32..8 {
+                let value = (addr >> (112 - 16 * group)) & 0xFFFF;
+                let digits = format!(in alloc; "{value:04x}")?;
+                text.push_str(digits.as_str())?;
+                if group < 7 {
+                    text.push(':')?;
+                }
+            }
+            Ok(text)
+        }
+    }
+}
+
+/// Returns the note on units of peers that weren't up.
+fn idle_note(alloc: Global, idle: &Idle) -> Result<String, AllocError> {
+    let mut names = Names::new(alloc);
+    for named in idle.first_peers() {
+        if let Some((peer, units)) = named {
+            let peer = peer_text(alloc, peer)?;
+            let text = format!(in alloc; "{peer} ({units})")?;
+            names.add(text.as_str())?;
+        }
+    }
+    names.count = idle.peers();
+    names.end(alloc)?;
+    let units = idle.units();
+    let names = names.text;
+    Ok(format!(in alloc;
+        "units that changed nothing, since their peer wasn't up: {units}, of {names}; --states established takes them"
+    )?)
+}
+
+/// Returns the note on files without a whole record, and the one on files that begin before the file named before them.
+fn order_notes(
+    alloc: Global,
+    inputs: &[Input<'_, '_>],
+) -> Result<(Option<String>, Option<String>), AllocError> {
+    let mut empty = Names::new(alloc);
+    let mut early = Names::new(alloc);
+    let mut before: Option<u32> = None;
+    for (file, input) in inputs.iter().enumerate() {
+        let first = input.device().first_second();
+        match (first, before) {
+            (None, _) => empty.add(name_of(alloc, inputs, file)?.as_str())?,
+            (Some(first), Some(before)) if first < before => {
+                early.add(name_of(alloc, inputs, file)?.as_str())?;
+            }
+            _ => {}
+        }
+        before = first;
+    }
+    Ok((
+        note_of(alloc, "files without a whole record", empty)?,
+        note_of(
+            alloc,
+            "files whose first record is older than that of the file named before",
+            early,
+        )?,
+    ))
+}
+
+/// Returns a note on these names, if there are any.
+fn note_of(alloc: Global, what: &str, mut names: Names) -> Result<Option<String>, AllocError> {
+    if names.count == 0 {
+        return Ok(None);
+    }
+    names.end(alloc)?;
+    let text = names.text;
+    Ok(Some(format!(in alloc; "{what}: {text}")?))
+}
+
+/// Returns the note on RIB dumps that add up, if there are several.
+fn dumps_note(
+    alloc: Global,
+    dumps: &Marked,
+    ribs: RibRule,
+    inputs: &[Input<'_, '_>],
+) -> Result<Option<String>, AllocError> {
+    let records = dumps.records();
+    if ribs == RibRule::Replace || records < 2 {
+        return Ok(None);
+    }
+    let names = names_of(alloc, dumps, inputs)?;
+    Ok(Some(format!(in alloc;
+        "RIB dumps that add up in the tables, where routes of a former one stay: {records}, in {names}; --rib replace clears the tables at each"
+    )?))
+}
+
+/// Returns the name of a family and that of the other one.
+fn names_of_families(family: AddressFamily) -> (&'static str, &'static str) {
+    match family {
+        AddressFamily::Ipv4 => ("IPv4", "IPv6"),
+        AddressFamily::Ipv6 => ("IPv6", "IPv4"),
+    }
+}
+
+/// Returns the notes on a run, in their order.
+fn notes_of(
+    alloc: Global,
+    summary: &Summary,
+    family: AddressFamily,
+    ribs: RibRule,
+    inputs: &[Input<'_, '_>],
+) -> Result<Vec<String>, AllocError> {
+    let remarks = summary.remarks;
+    let mut notes = Vec::new(alloc);
+    if summary.idle.units() > 0 {
+        notes.push(idle_note(alloc, &summary.idle)?)?;
+    }
+    if remarks.ribs == 0 && remarks.other_family.records() > 0 {
+        let records = remarks.other_family.records();
+        let names = names_of(alloc, &remarks.other_family, inputs)?;
+        let (asked, other) = names_of_families(family);
+        notes.push(format!(in alloc;
+            "no RIB record of {asked} routes, and {records} of {other} routes, which aren't read: {names}"
+        )?)?;
+    }
+    let (empty, early) = order_notes(alloc, inputs)?;
+    if let Some(note) = empty {
+        notes.push(note)?;
+    }
+    if let Some(note) = early {
+        notes.push(note)?;
+    }
+    if let Some(note) = dumps_note(alloc, &remarks.dumps, ribs, inputs)? {
+        notes.push(note)?;
+    }
+    if remarks.repeats.records() > 0 {
+        let records = remarks.repeats.records();
+        let names = names_of(alloc, &remarks.repeats, inputs)?;
+        notes.push(format!(in alloc;
+            "RIB records without path identifiers that name a peer twice: {records}, in {names}"
+        )?)?;
+    }
+    Ok(notes)
+}
+
+/// Reports what is remarkable about the dumps. Without memory for it nothing is.
+pub fn tell_notes(
+    rt: &HostRuntime,
+    summary: &Summary,
+    family: AddressFamily,
+    ribs: RibRule,
+    inputs: &[Input<'_, '_>],
+) {
+    if let Ok(notes) = notes_of(rt.alloc(), summary, family, ribs, inputs) {
+        for note in &notes {
+            let _ = eprintln!(rt; "  note: {note}");
+        }
+    }
+}

@@ -1,0 +1,5 @@
+pub mod Lists
+pub mod ListedLaws
+pub mod UnitLists
+pub mod MovedLists
+pub mod Batches
