@@ -1,7 +1,7 @@
 //! Lanes under any schedule: on one thread, event by event (`run_schedule`), by other dealings than the program's
 //! (`ByBlocks`, `ByList`), and the laws by which no answer depends on how units are shared.
 //!
-//! - Each unit is in one lane, and each lane takes its own in their order (`lanes_share_units`, `schedules_keep_order`).
+//! - Each unit is in one lane, and each lane takes its own in order (`lanes_share_units`, `schedules_keep_order`).
 //! - What all lanes took makes the tables of all units (`lanes_make_tables`, `settled_lanes_make_tables`).
 //! - Rounds are few (`rounds_are_few`).
 //!

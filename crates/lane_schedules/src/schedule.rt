@@ -13,13 +13,12 @@ use crate::turn::Turn;
 use adj_rib::RouteId;
 use bgp_prefix::{Memory, PrefixMap, Sequence};
 use bgp_update::Unicast;
-use lane_deal::{
-    Dealing, DecodedUnits, HoldsSeats, PeerUnit, PeerUnitOf, Seats, Sessions, exchange_seats,
-};
+use lane_deal::{Dealing, HoldsSeats, Seats, Sessions, exchange_seats};
 use peer_tables::{Peers, Seated};
 use peer_units::UnitOf;
 use std::alloc::Global;
 use std::collections::VecDeque;
+use unit_rings::{DecodedUnits, PeerUnit, PeerUnitOf};
 
 /// A lane whose ring has no bound.
 #[derive(Drop)]
