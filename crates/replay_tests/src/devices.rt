@@ -1,6 +1,6 @@
-//! Rows on devices that fail: at each read, at each write, and past the limit on records.
+//! Devices that fail: at each read and at each write.
 
-use crate::harness::{PLAN, full, replay, replay_readers};
+use crate::harness::{PLAN, full, replay_readers};
 use adj_rib::RouteId;
 use fixtures::{Dripping, THREE_PEERS, THREE_ROUTES, bytes_of};
 use lane_deal::{ByTurns, NoGate, Plan};
@@ -73,44 +73,23 @@ fn expect_read(
     Ok(())
 }
 
-/// Fails the read of each byte, and of the end, in turn.
-fn expect_every_read(
-    rt: &(impl Threads + Abort + Sync),
-    alloc: Global,
-    kind: ErrorKind,
-    workers: usize,
-) -> Result<(), Fail> {
+/// The read of each byte, and of the end, fails in turn. An interrupted read is a failure like any other.
+#[test]
+fn every_failed_read_leaves_nothing_written(rt: HostRuntime) -> Result<(), Fail> {
+    let alloc = rt.alloc();
     let bytes = bytes_of(alloc, THREE_PEERS)?;
     assert_eq!(rt; bytes.len(), 385);
-    for k in 0..=bytes.len() {
-        expect_read(rt, alloc, &bytes.as_slice()[..k], kind, workers)?;
+    for (kind, workers) in [
+        (ErrorKind::Other, 1),
+        (ErrorKind::Other, 4),
+        (ErrorKind::Interrupted, 1),
+        (ErrorKind::Interrupted, 4),
+    ] {
+        for k in 0..=bytes.len() {
+            expect_read(&rt, alloc, &bytes.as_slice()[..k], kind, workers)?;
+        }
     }
     Ok(())
-}
-
-#[test]
-fn every_failed_read_leaves_nothing_written_by_one_worker(rt: HostRuntime) -> Result<(), Fail> {
-    expect_every_read(&rt, rt.alloc(), ErrorKind::Other, 1)
-}
-
-#[test]
-fn every_failed_read_leaves_nothing_written_by_four_workers(rt: HostRuntime) -> Result<(), Fail> {
-    expect_every_read(&rt, rt.alloc(), ErrorKind::Other, 4)
-}
-
-/// An interrupted read is a failure like any other.
-#[test]
-fn every_interrupted_read_leaves_nothing_written_by_one_worker(
-    rt: HostRuntime,
-) -> Result<(), Fail> {
-    expect_every_read(&rt, rt.alloc(), ErrorKind::Interrupted, 1)
-}
-
-#[test]
-fn every_interrupted_read_leaves_nothing_written_by_four_workers(
-    rt: HostRuntime,
-) -> Result<(), Fail> {
-    expect_every_read(&rt, rt.alloc(), ErrorKind::Interrupted, 4)
 }
 
 /// A replay reads a file whole: what the reads of a device return that comes byte by byte is the file.
@@ -168,30 +147,49 @@ fn is_write_error(outcome: &Result<Summary, ReplayError>) -> bool {
     }
 }
 
+/// Expects that a writer with room for so many bytes, which then fails or takes none, has this front of the report.
+fn expect_front(
+    rt: &(impl Threads + Abort + Sync),
+    alloc: Global,
+    bytes: &[u8],
+    room: usize,
+    fails: bool,
+) -> Result<(), Fail> {
+    let writer = Full {
+        room,
+        fails,
+        flushes: true,
+        written: Vec::new(alloc),
+    };
+    let (result, written) = run_into(rt, alloc, bytes, writer)?;
+    let text = THREE_ROUTES.as_bytes();
+    assert!(rt; room <= text.len());
+    assert!(rt;
+        is_write_error(&result) && status(&result) == 3,
+        "a write that fails at {room}"
+    );
+    assert!(rt;
+        written.as_slice() == &text[..room],
+        "what was written before {room}"
+    );
+    Ok(())
+}
+
 #[test]
 fn every_failed_write_leaves_the_front_before_it(rt: HostRuntime) -> Result<(), Fail> {
     let alloc = rt.alloc();
     let bytes = bytes_of(alloc, THREE_PEERS)?;
-    let text = THREE_ROUTES.as_bytes();
-    for k in 0..text.len() {
-        for fails in [true, false] {
-            let writer = Full {
-                room: k,
-                fails,
-                flushes: true,
-                written: Vec::new(alloc),
-            };
-            let (result, written) = run_into(&rt, alloc, bytes.as_slice(), writer)?;
-            assert!(rt;
-                is_write_error(&result) && status(&result) == 3,
-                "a write that fails at {k}"
-            );
-            assert!(rt;
-                written.as_slice() == &text[..k],
-                "what was written before {k}"
-            );
-        }
+    for room in 0..THREE_ROUTES.len() {
+        expect_front(&rt, alloc, bytes.as_slice(), room, true)?;
+        expect_front(&rt, alloc, bytes.as_slice(), room, false)?;
     }
+    Ok(())
+}
+
+#[test]
+fn a_failed_flush_is_a_failed_write(rt: HostRuntime) -> Result<(), Fail> {
+    let alloc = rt.alloc();
+    let bytes = bytes_of(alloc, THREE_PEERS)?;
     for flushes in [false, true] {
         let writer = Full {
             room: 1000,
@@ -200,9 +198,11 @@ fn every_failed_write_leaves_the_front_before_it(rt: HostRuntime) -> Result<(), 
             written: Vec::new(alloc),
         };
         let (result, written) = run_into(&rt, alloc, bytes.as_slice(), writer)?;
-        assert!(rt; written.as_slice() == text, "all is written");
-        assert!(rt; is_write_error(&result) != flushes, "a flush that fails");
-        assert!(rt; result.is_ok() == flushes, "a flush that succeeds");
+        assert!(rt;
+            written.as_slice() == THREE_ROUTES.as_bytes(),
+            "all is written"
+        );
+        assert!(rt; is_write_error(&result) != flushes && result.is_ok() == flushes);
     }
     Ok(())
 }
@@ -223,46 +223,5 @@ fn a_second_file_that_fails_at_once_is_named(rt: HostRuntime) -> Result<(), Fail
         &PLAN,
     )?;
     assert!(rt; outcome.failed_with(ReplayError::Read { file: 1 }));
-    Ok(())
-}
-
-/// Records, the limit on them, the report, and how many faults there are where the limit isn't passed.
-#[test]
-fn one_record_past_the_limit_ends_the_run(rt: HostRuntime) -> Result<(), Fail> {
-    let alloc = rt.alloc();
-    let line = "65000 192.0.2.1|10.0.0.0/8|65000|192.0.2.1|IGP|-|-|-|-\n";
-    for (words, max_records, request, text, damaged) in [
-        ("announcement announcement", 1, Request::Tables, "", None),
-        (
-            "announcement announcement",
-            2,
-            Request::Tables,
-            line,
-            Some(0),
-        ),
-        ("announcement 000000", 1, Request::Tables, line, Some(1)),
-        (
-            "announcement 000000",
-            1,
-            Request::Faults,
-            "1|77|-|1|ShortHeader\n",
-            Some(1),
-        ),
-    ] {
-        let files = [bytes_of(alloc, words)?];
-        let plan = Plan {
-            max_records,
-            ..PLAN
-        };
-        let outcome = replay::<Radix<u32, RouteId>>(&rt, alloc, &files, &request, &plan)?;
-        assert!(rt; outcome.text.as_slice() == text.as_bytes(), "{words}");
-        match &outcome.result {
-            Err(_) => assert!(rt;
-                damaged.is_none() && outcome.failed_with(ReplayError::Records),
-                "{words}"
-            ),
-            Ok(summary) => assert!(rt; Some(summary.damaged) == damaged, "{words}"),
-        }
-    }
     Ok(())
 }
