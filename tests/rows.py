@@ -5,7 +5,8 @@ usage: tests/rows.py PROGRAM [FILE.rows ..]      without a file those of tests/r
 
 A file of rows has lines of these forms; an empty line and one that begins with `#` say nothing.
   row NAME            begins a row
-  file WORDS          adds a dump: names of records and fields of crates/fixtures, and hexadecimal digits
+  file WORDS          adds a dump: names of records and fields of crates/fixtures, hexadecimal digits, and digits that
+                      are repeated, as 00*65492
   ? WORDS             asks the program with these words, and the row's dumps behind them
   > LINE              is a line of what it prints; all of them, in order
   damaged N           how many faults the run lists, and so its status; 0 where nothing is said
@@ -46,8 +47,8 @@ def bytes_of(words):
         word, _, words = words.partition(" ")
         if word in NAMES:
             words = f"{NAMES[word]} {words}"
-        elif re.fullmatch(r"([0-9A-Fa-f]{2})*", word):
-            digits += word
+        elif found := re.fullmatch(r"((?:[0-9A-Fa-f]{2})*)(?:\*([0-9]+))?", word):
+            digits += found[1] * int(found[2] or 1)
         elif word != "|":
             raise ValueError(f"neither a name nor whole bytes: {word}")
     return bytes.fromhex(digits)

@@ -2,7 +2,7 @@
 
 use crate::files::{BZIP2, EMPTY_BZIP2, EMPTY_GZIP, GZIP, PLAIN, file_of};
 use crate::reading::{Failing, read_all};
-use packed_io::{Effect, Pace, PackedFiles, PackedReader, Pieces};
+use packed_io::{Pace, PackedFiles, PackedReader, Pieces};
 use std::alloc::Global;
 use std::io::ErrorKind;
 use std::marker::Sync;
@@ -85,42 +85,46 @@ fn expect_texts<'a>(
     }
 }
 
-/// The reading thread unpacks what no other one did.
+/// Files are unpacked by the reading thread alone, by others before they are read, and by others while they are read.
 #[test]
-fn a_reader_alone_unpacks(rt: HostRuntime) {
+fn each_file_gives_its_text_whoever_unpacks_it(rt: HostRuntime) {
     let alloc = rt.alloc();
     let files = files_of(&rt, alloc);
     let (packed, all) = packed_of(&rt, alloc, files.as_slice(), 2);
     expect_texts(&rt, alloc, files.as_slice(), &packed, all);
+    for threads in [1usize, 2, 4] {
+        expect_ahead(&rt, alloc, files.as_slice(), threads);
+        expect_beside(&rt, alloc, files.as_slice(), threads);
+    }
 }
 
 /// What was unpacked before the reading begins is read then, and nobody waits for it to begin.
-#[test]
-fn files_are_unpacked_before_they_are_read(rt: HostRuntime) {
-    let alloc = rt.alloc();
-    let files = files_of(&rt, alloc);
-    for threads in [1usize, 2, 4] {
-        let (packed, all) = packed_of(&rt, alloc, files.as_slice(), threads);
-        packed.unpack(&rt, &NOT_BEGUN);
-        expect_texts(&rt, alloc, files.as_slice(), &packed, all);
-    }
+fn expect_ahead<R: Abort + Threads + Sync>(
+    rt: &R,
+    alloc: Global,
+    files: &[Vec<u8>],
+    threads: usize,
+) {
+    let (packed, all) = packed_of(rt, alloc, files, threads);
+    packed.unpack(rt, &NOT_BEGUN);
+    expect_texts(rt, alloc, files, &packed, all);
 }
 
-#[test]
-fn files_are_unpacked_while_they_are_read(rt: HostRuntime) {
-    let alloc = rt.alloc();
-    let files = files_of(&rt, alloc);
-    for threads in [1usize, 2, 4] {
-        let (packed, all) = packed_of(&rt, alloc, files.as_slice(), threads);
-        join(
-            &rt,
-            || packed.unpack(&rt, &BEGUN),
-            || {
-                expect_texts(&rt, alloc, files.as_slice(), &packed, all);
-                packed.end();
-            },
-        );
-    }
+fn expect_beside<R: Abort + Threads + Sync>(
+    rt: &R,
+    alloc: Global,
+    files: &[Vec<u8>],
+    threads: usize,
+) {
+    let (packed, all) = packed_of(rt, alloc, files, threads);
+    join(
+        rt,
+        || packed.unpack(rt, &BEGUN),
+        || {
+            expect_texts(rt, alloc, files, &packed, all);
+            packed.end();
+        },
+    );
 }
 
 /// A file that is left isn't read on, and the next one gives its text.
@@ -158,7 +162,7 @@ fn expect_failure<R: Abort + Threads + Sync>(
     }
 }
 
-/// A failure is told where the file is read, and stays; so is what is wrong with the data.
+/// A failure is told where the file is read, and stays.
 #[test]
 fn what_fails_before_it_is_read_fails_where_it_is(rt: HostRuntime) {
     let alloc = rt.alloc();
@@ -167,19 +171,4 @@ fn what_fails_before_it_is_read_fails_where_it_is(rt: HostRuntime) {
         expect_failure(&rt, alloc, file.as_slice(), failing, true);
         expect_failure(&rt, alloc, file.as_slice(), failing, false);
     }
-    let mut packed = PackedFiles::new(alloc, 2);
-    let front = file
-        .as_slice()
-        .get(..40)
-        .expect(&rt, "a file of forty bytes");
-    let device = Failing::new(front, 5, 0);
-    let pieces = packed
-        .add(device, 1)
-        .expect(&rt, "memory for a packed file");
-    packed.unpack(&rt, &NOT_BEGUN);
-    let mut reader = PackedReader::new(alloc, &packed, pieces, BEGUN);
-    let read = read_all(&rt, alloc, &mut reader);
-    assert!(rt; read.error.is_none());
-    let fault = reader.fault().expect(&rt, "a fault");
-    assert!(rt; fault.effect() == Effect::Ended && fault.words() == "the data ends early");
 }

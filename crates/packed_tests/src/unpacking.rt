@@ -1,6 +1,6 @@
 //! Files in each form, whatever their device gives at a time.
 
-use crate::files::{BZIP2, EMPTY_BZIP2, EMPTY_GZIP, GZIP, PLAIN, file_of};
+use crate::files::{BZIP2, GZIP, PLAIN, file_of};
 use crate::reading::{Failing, read_all, read_on};
 use packed_io::{Effect, Format, Unpacked};
 use std::io::ErrorKind;
@@ -32,51 +32,6 @@ fn a_file_in_each_form_gives_its_text(rt: HostRuntime) {
                 file.len() as u64
             };
             assert!(rt; reader.packed_bytes() == counted);
-        }
-    }
-}
-
-/// Packed files of nothing, and of two texts.
-#[test]
-fn a_file_may_be_empty_or_of_several_parts(rt: HostRuntime) {
-    let alloc = rt.alloc();
-    let text = file_of(&rt, alloc, PLAIN);
-    for (empty, full) in [(EMPTY_GZIP, GZIP), (EMPTY_BZIP2, BZIP2)] {
-        let file = file_of(&rt, alloc, empty);
-        let mut reader = Unpacked::new(alloc, file.as_slice());
-        let read = read_all(&rt, alloc, &mut reader);
-        assert!(rt; read.error.is_none() && read.bytes.is_empty() && reader.fault().is_none());
-        let mut twice = file_of(&rt, alloc, full);
-        let again = file_of(&rt, alloc, full);
-        twice
-            .extend_from_slice(again.as_slice())
-            .expect(&rt, "memory for a file");
-        let mut reader = Unpacked::new(alloc, twice.as_slice());
-        let read = read_all(&rt, alloc, &mut reader);
-        assert!(rt; read.error.is_none() && read.bytes.len() == 60);
-        assert!(rt; read.bytes.as_slice().starts_with(text.as_slice()));
-        assert!(rt; read.bytes.as_slice().ends_with(text.as_slice()));
-    }
-}
-
-/// Files of 0 to 12 bytes, of a plain file and of ones that begin nearly as packed ones do, are read as they are.
-#[test]
-fn a_short_file_is_read_as_it_is(rt: HostRuntime) {
-    let alloc = rt.alloc();
-    let nearly = [
-        "1f8b0700000000000203f30d",
-        "425a6830314159265359 1611",
-        "425a6839314159265358 1611",
-    ];
-    for digits in [PLAIN, nearly[0], nearly[1], nearly[2]] {
-        let file = file_of(&rt, alloc, digits);
-        for end in 0..13 {
-            let bytes = &file.as_slice()[..end.min(file.len())];
-            let mut reader = Unpacked::new(alloc, Failing::new(bytes, 4, 0));
-            let read = read_all(&rt, alloc, &mut reader);
-            assert!(rt; read.error.is_none() && reader.fault().is_none());
-            assert!(rt; read.bytes.as_slice() == bytes);
-            assert!(rt; reader.format() == Some(Format::Plain));
         }
     }
 }
