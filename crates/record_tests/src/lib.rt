@@ -1,7 +1,5 @@
-//! Tests of what the bodies of records mean.
+//! Tests of what a caller sees beside the units of records: limits, failures, refused growths and what is lent.
 #![tactic(auto)]
 
 #[cfg(test)]
-mod bodies;
-#[cfg(test)]
-mod chosen;
+mod units;
