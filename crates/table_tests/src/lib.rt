@@ -1,11 +1,11 @@
-//! Tests of sessions, of the tables of all peers and of their reports.
+//! Tests of what no run of the program shows of sessions and reports: refused growths, writers that fail, and threads.
 #![tactic(auto)]
 
 #[cfg(test)]
-mod churns;
+mod sessions;
 #[cfg(test)]
-mod payloads;
+mod tables;
 #[cfg(test)]
-mod reports;
+mod units;
 #[cfg(test)]
-mod ribs;
+mod writers;
