@@ -35,7 +35,7 @@ help:
 	@echo 'make run          replays the sample by `tables`'
 	@echo 'make check        the gate: every proof, must-fail edit, test and run from nothing, make scripts, make quick-check and make python-check'
 	@echo 'make verdict      each crate from nothing, with its tests'
-	@echo 'make scripts      tries lines, notes and statuses, the packages, recipes, shares of the peers, packed dumps, what the build records and refuses, and that pages and comments name what there is'
+	@echo 'make scripts      tries rows of dumps and reports, lines, notes and statuses, the packages, recipes, shares of the peers, packed dumps, what the build records and refuses, and that pages and comments name what there is'
 	@echo 'make quick-check  builds that program, and tries it'
 	@echo 'make python-check tries the Python package, with pandas, Dask and a browser (Debian packages that it installs as root)'
 	@echo 'make page         makes bin/page.html, the page of an incident in the dumps of examples/, with pandas and Jinja2'
@@ -106,7 +106,7 @@ deb: proved
 python-deb: $(BINARY)
 	tools/pack.sh python-deb '$(BINARY)' '$(DIST)'
 
-# Lines and statuses, packages, recipes, what the build records and refuses, pages that are made, and names: quick.
+# Rows, lines and statuses, packages, recipes, what the build records and refuses, pages that are made, and names: quick.
 scripts: $(BINARY)
 	tests/program.sh '$(BINARY)'
 	tests/family.sh '$(BINARY)'
@@ -115,6 +115,8 @@ scripts: $(BINARY)
 	tests/recipes.sh '$(BINARY)'
 	tests/shares.sh '$(BINARY)'
 	tests/packed.sh '$(BINARY)'
+	python3 tests/rows.py '$(BINARY)'
+	python3 tests/fronts.py '$(BINARY)'
 	python3 tests/history.py '$(BINARY)'
 	python3 tests/attributes.py '$(BINARY)'
 	tests/build.sh

@@ -149,6 +149,8 @@ class Repository:
         for name in self.files:
             if name.startswith("crates/") and name.count("/") > 1:
                 self.take(name, name.split("/")[1])
+            elif name.endswith(".rows"):
+                self.rows.update(re.findall(r"^row (\S+)$", read(name), re.M))
         options, makefile = read(OPTIONS), read("Makefile")
         self.options = {"help", "version", *re.findall(r'^        name: "([a-z-]+)",\n        value', options, re.M)}
         for name in self.files:
