@@ -58,6 +58,7 @@ try 0 '' whole-tables tables --workers 2 --workers 3 sample
 try 0 '' whole-tables tables --until 0 --until 18446744073709551615 sample
 try 0 '' whole-tables tables --until 9999-01-01T00:00:00Z sample
 { printf 'peer|prefix|as_path|next_hop|origin|med|local_pref|atomic|aggregator\n'; cat whole-tables; } > headed; try 0 '' headed tables --header sample
+try 0 '' headed tables --workers 2 sample --header --workers 3 --until 6 --until 9999-01-01T01:00:00Z empty
 printf 'file|offset|entry|number|fault\n' > headed; try 0 '' headed faults --header sample
 for words in --help -h help 'tables --help' 'match -h' 'help tables'; do try 0 '' something $words; done
 try 0 '' whole-tables tables --until '9999-01-01 00:00:00Z' sample
@@ -87,6 +88,11 @@ for words in --help 'tables --help' 'visibility --help' 'origins --help' 'seen -
   most=$(COLUMNS=500 ./bgp_replay $words | widest); if [ "$most" -gt 80 ]; then right; else wrong "$words with 500 columns: no line is wider than $most"; fi
   if cmp -s <(env -u COLUMNS ./bgp_replay $words | tr -s ' \n' '  ') <(COLUMNS=50 ./bgp_replay $words | tr -s ' \n' '  '); then right; else wrong "$words: other words with 50 columns"; fi
 done
+same_width() { # COLUMNS WIDTH
+  COLUMNS=$2 ./bgp_replay tables --help > wanted; COLUMNS=$1 ./bgp_replay tables --help > out 2> said; judge "help where COLUMNS is '$1'" 0 '' wanted $?
+}
+same_width $' 40\n' 40; same_width 1 40; for columns in '' 0 -5; do same_width "$columns" 80; done
+most=$(COLUMNS=120 ./bgp_replay tables --help | widest); if [ "$most" -gt 80 ] && [ "$most" -le 120 ]; then right; else wrong "tables --help with 120 columns: a line of $most"; fi
 for report in tables visibility origins seen churn peers history faults 'match --address 10.0.0.1'; do
   told=$(./bgp_replay ${report%% *} --help | sed -n '/^Columns/,/^[^ C]/s/^  \([a-z_][a-z_]*\) .*/\1/p' | paste -sd '|')
   if [ "$told" = "$(./bgp_replay $report --header --quiet empty)" ]; then right; else wrong "$report --help has the columns $told"; fi
@@ -138,6 +144,37 @@ tip "  tip: a similar argument exists: '--until'" tables --untill 5 sample
 tip "  tip: a similar argument exists: '--addresses'" tables --adresses short sample
 tip "  tip: to pass '-sample.mrt' as a file, use '-- -sample.mrt'" tables -sample.mrt
 tip '' tables --frobnicate sample
+tip '' tables -x sample
+tip '' tables --quux=1.5 sample
+tip "  tip: to pass '--bview.20240101.mrt' as a file, use '-- --bview.20240101.mrt'" tables --bview.20240101.mrt
+tip "  tip: to pass '-rib.mrt' as a file, use '-- -rib.mrt'" tables -rib.mrt
+
+# all that is said of a value: what it may be, and what it looks like
+all_said() { # TEXT
+  if [ "$(cat said)" = "$1" ]; then right; else wrong "said in place of $(head -n 1 <<< "$1"): $(cat said)"; fi
+}
+told() { # TEXT WORDS..
+  local text=$1; shift
+  try 2 "$(head -n 1 <<< "$text")" nothing "$@"; all_said "$text"
+}
+may_be() { echo "  it may be $1, $1+ (more specifics too), $1- (less specifics too) or an address"; } # EXAMPLE
+like() { echo "  it looks like an IPv$1 $2: --family ipv$1 reads those, and replays IPv$1 routes"; } # FAMILY WHAT
+told_prefix() { # FAMILY PREFIX WHY [LIKE]
+  local example=192.0.2.0/24; [ $1 = ipv4 ] || example=2001:db8::/32
+  told "error: invalid value '$2' for '--prefix <PREFIX>': $3"$'\n'"$(may_be $example)${4:+$'\n'$4}" tables --family $1 --prefix $2 sample
+}
+told "error: invalid value 'ipv5' for '--family <FAMILY>': neither ipv4 nor ipv6" tables --family ipv5 sample
+told_prefix ipv4 2001:db8::/32 "no IPv4 address stands before its '/'" "$(like 6 prefix)"
+told_prefix ipv4 ::1/129+ "no IPv4 address stands before its '/'" "$(like 6 prefix)"
+told_prefix ipv4 192.0.2.1/24 'its address has bits past its length'
+told_prefix ipv6 192.0.2.0/24 "no IPv6 address stands before its '/'" "$(like 4 prefix)"
+told_prefix ipv6 192.0.2.7 'it is no IPv6 address' "$(like 4 address)"
+told_prefix ipv6 192.0.2/24 "no IPv6 address stands before its '/'"
+told_prefix ipv6 ::/129 'its length is not a number of 0 to 128'
+for address in 2001:db8::1 ::; do told "bad address: $address"$'\n'"$(like 6 address)" match --address $address sample; done
+for address in 2001:db8::/32 2001:db8::1+ ::ffff:192.0.2.1 192.0.2; do told "bad address: $address" match --address $address sample; done
+told 'bad address: 192.0.2.1'$'\n'"$(like 4 address)" match --family ipv6 --address 192.0.2.1 sample
+for address in 192.0.2.1/32 192.0.2.01 2001:db8 ''; do told "bad address: $address" match --family ipv6 --address "$address" sample; done
 try 0 '' any match --address 0.0.0.0 sample
 try 0 '' any match --address 255.255.255.255 sample
 
@@ -564,6 +601,25 @@ bad_line ' # ours' ' # ours' 'it is no IPv4 address'
 bad_line '192.0.2.0 192.0.2.1' '192.0.2.0 192.0.2.1' 'it is no IPv4 address'
 bad_line '\0377' '\xff' 'it is no IPv4 address'
 bad_line '192.0.2.0/24\r#' '192.0.2.0/24\r#' 'its length is not a number of 0 to 32'
+bad_line '192.0.2.9 # ours' '192.0.2.9 # ours' 'it is no IPv4 address'
+bad_line '192.0.2.9\r192.0.2.8' '192.0.2.9\r192.0.2.8' 'it is no IPv4 address'
+told_list() { # TEXT FAMILY LINE SHOWN WHY [LIKE]: which line of a text is refused first, and all that is said of it
+  local example=192.0.2.0/24; [ $2 = ipv4 ] || example=2001:db8::/32
+  printf "$1" > list
+  told "error: invalid line $3 '$4' in '--prefixes list': $5"$'\n'"$(may_be $example); a line that begins with # is passed over${6:+$'\n'$6}" \
+    tables --family $2 --prefixes list eight
+}
+told_list 'soon' ipv4 1 soon 'it is no IPv4 address'
+told_list '192.0.2.9\n#\n\n\n-' ipv4 5 - 'it is no IPv4 address'
+told_list '192.0.2.9\n\n192.0.2.9/31\n192.0.2.9/33\n' ipv4 3 192.0.2.9/31 'its address has bits past its length'
+told_list '::1\n10.0.0.0/8\n' ipv4 1 ::1 'it is no IPv4 address' "$(like 6 address)"
+told_list '::1\n10.0.0.0/8\n' ipv6 2 10.0.0.0/8 "no IPv6 address stands before its '/'" "$(like 4 prefix)"
+told_list '::9\n\n192.0.2.0/24\n::9/127\n' ipv6 3 192.0.2.0/24 "no IPv6 address stands before its '/'" "$(like 4 prefix)"
+told_list '::9/127\n' ipv6 1 ::9/127 'its address has bits past its length'
+told_list '::9\n::9/129\n' ipv6 2 ::9/129 'its length is not a number of 0 to 128'
+for text in '' '\n\n' '\r\n \t\n#\n'; do printf "$text" > list; told "error: '--prefixes ./list' names no prefix" tables --prefixes ./list eight; done
+printf '198.51.100.0/25\r\n\r\n203.0.113.0/24+\r\n' > list; lists 'tables --prefixes list --until 1030' "$one_203" "$two_25" "$two_203"
+lists 'tables --prefixes list --prefix 198.51.100.0/24 --prefixes list --until 1030' "$one_203" "$two_24" "$two_25" "$two_203"
 try 3 'open failed: prefixes 2' nothing tables --prefixes two.txt --prefixes missing eight
 try 3 'read failed: prefixes 1' nothing tables --prefixes . eight
 for words in 'tables --prefixes' 'tables --prefixes two.txt'; do try 2 '?' nothing $words; done
@@ -574,13 +630,13 @@ lists 'tables --until 1970-01-02 --prefix 203.0.113.0/24' "$one_203"
 
 # --files-from: names by line and by NUL byte, behind those of the arguments
 printf 'eight\n\nempty' > dumps.txt; printf 'empty\0eight\0' > dumps.nul; printf '\n\n' > none.txt; printf 'eight\n\n\377\n' > bad.txt
-./bgp_replay tables eight > whole-eight 2> said; ./bgp_replay tables eight eight > whole-twice 2> said
-for words in '--files-from dumps.txt' '--files-from dumps.nul' 'empty --files-from dumps.txt' '--files-from=dumps.txt empty'; do try 0 '' whole-eight tables $words; done
-try 0 '' whole-twice tables --files-from dumps.txt --files-from dumps.nul
-try 0 '' whole-twice tables --files-from dumps.nul eight
-INPUT=dumps.nul try 0 '' whole-eight tables --files-from -
-printf 'two words\0line\nfeed\0' > odd.nul; cp eight 'two words'; cp eight $'line\nfeed'; try 0 '' whole-twice tables --files-from odd.nul
-printf '%s\n' - > stdin.txt; INPUT=eight try 0 '' whole-eight tables --files-from stdin.txt
+./bgp_replay churn eight > whole-eight 2> said; ./bgp_replay churn eight eight > whole-twice 2> said
+for words in '--files-from dumps.txt' '--files-from dumps.nul' 'empty --files-from dumps.txt' '--files-from=dumps.txt empty'; do try 0 '' whole-eight churn $words; done
+try 0 '' whole-twice churn --files-from dumps.txt --files-from dumps.nul
+try 0 '' whole-twice churn --files-from dumps.nul eight
+INPUT=dumps.nul try 0 '' whole-eight churn --files-from -
+printf 'two words\0line\nfeed\0' > odd.nul; cp eight 'two words'; cp eight $'line\nfeed'; try 0 '' whole-twice churn --files-from odd.nul
+printf '%s\n' - > stdin.txt; INPUT=eight try 0 '' whole-eight churn --files-from stdin.txt
 INPUT=dumps.txt try 2 "error: standard input can't be both the names of files and a dump" nothing tables --files-from - -
 INPUT=stdin.txt try 2 "error: standard input can't be both the names of files and a dump" nothing tables --files-from -
 try 2 "error: standard input can't be both the names of files and the prefixes" nothing tables --files-from - --prefixes - eight
@@ -591,6 +647,18 @@ try 3 'open failed: files-from 2' nothing tables --files-from dumps.txt --files-
 try 3 'read failed: files-from 1' nothing tables --files-from .
 printf 'eight\nmissing\n' > missing.txt; try 3 'open failed: file 3' nothing tables --files-from missing.txt eight
 try 2 '?' nothing tables --files-from
+# what is part of a name: blanks, carriage returns, line feeds where NUL bytes end names, and nothing at all
+listed() { printf "$2" > "$1"; } # NAME TEXT
+for name in $'a b \r' $'\tc' $'a\nb' c $'\n'; do cp eight "$name"; done
+listed blanks '\na b \r\n\n\tc'; try 0 '' whole-twice churn --files-from blanks
+listed feeds 'a\nb\0c'; try 0 '' whole-twice churn --files-from feeds
+listed feed '\n\0'; try 0 '' whole-eight churn --files-from feed
+listed end '\0'; try 3 'open failed: file 1' nothing tables --files-from end
+listed gap 'a\nb\0\0c'; try 3 'open failed: file 2' nothing tables --files-from gap
+listed feed '\n'; told "error: '--files-from feed' names no file" tables --files-from feed
+listed end 'c\0\303\0'; try 2 "error: name 2 '\\xc3' in '--files-from end' is not UTF-8 text" nothing tables --files-from end
+listed 'my list' 'a\n\nb\377\nc\n\376'
+told $'error: name 3 \'b\\xff\' in \'--files-from "my list"\' is not UTF-8 text\n  give such a file by a symbolic link with another name' tables --files-from 'my list'
 # any number of files, however few may be open
 for ((i = 0; i < 2000; i++)); do echo empty; echo eight; done > many.txt
 mapfile -t many < many.txt; ./bgp_replay churn "${many[@]}" > whole-many 2> said
@@ -600,7 +668,7 @@ done
 # a file is closed when the next one is begun, though its end wasn't read: whoever writes it is told, and goes on
 mkfifo first second
 timeout 60 bash -c 'exec 6> first 7> second; { printf "\0\0\0\1\0\15\0\1\377\377\377\377"; yes; } >&6 7>&-; echo $? > ended; exec 6>&-; cat eight >&7' 2> none & writer=$!
-timeout 60 ./bgp_replay tables first second > out 2> said; judge 'a pipe that is left' 1 'damaged: 1' whole-eight $?
+timeout 60 ./bgp_replay churn first second > out 2> said; judge 'a pipe that is left' 1 'damaged: 1' whole-eight $?
 wait $writer; if [ "$(cat ended)" = 141 ]; then right; else wrong "who writes a pipe that is left ends with $(cat ended)"; fi
 
 # what isn't MRT is named
@@ -609,6 +677,19 @@ try 1 'damaged: 1' nothing tables packed.zip; [ "$(tail -n +2 said | grep -v "^ 
 INPUT=packed.zip try 1 'damaged: 1' something faults -; [ "$(tail -n +2 said | grep -v "^  note: ")" = '  standard input: looks like zip data; try: unzip -p FILE | bgp_replay faults -' ] && right || wrong "zip data: $(tail -n +2 said)"
 try 1 'damaged: 1' nothing tables packed.xz; [ "$(tail -n +2 said | grep -v "^  note: ")" = '  packed.xz: looks like xz data; try: bgp_replay tables <(xzcat packed.xz)' ] && right || wrong "xz data: $(tail -n +2 said)"
 try 1 'damaged: 1' nothing tables lines.txt; [ "$(tail -n +2 said | grep -v "^  note: ")" = '  lines.txt: looks like text, and not like an MRT dump' ] && right || wrong "text: $(tail -n +2 said)"
+looks() { # BYTES LINE: what is said of a file of these bytes, or nothing
+  printf "$1" > likeness; try 1 'damaged: 1' nothing tables likeness
+  if [ "$(tail -n +2 said | grep -v '^  note: ')" = "${2:+  likeness: looks like $2}" ]; then right; else wrong "of $1 is said: $(tail -n +2 said)"; fi
+}
+looks '\375\067zXZ\0\0\4' 'xz data; try: bgp_replay tables <(xzcat likeness)'
+looks '\050\265\057\375\004\130' 'zstd data; try: bgp_replay tables <(zstdcat likeness)'
+looks 'PK\3\4\24\0\0\0' 'zip data; try: bgp_replay tables <(unzip -p likeness)'
+looks 'PK\5\6\0\0\0\0' ''
+looks '\324\303\262\241\2\0\4\0' 'a packet capture, and not like an MRT dump'
+looks '\n\r\r\n\034\0\0\0' 'a packet capture, and not like an MRT dump'
+looks 'TABLE_DUMP2|1|B|' 'text, and not like an MRT dump'
+looks '\0\0\0\1\0\20\0\4' ''
+try 0 '' nothing tables empty; [ "$(cat said)" = '  note: files without a whole record: empty' ] && right || wrong "of an empty file is said: $(cat said)"
 
 # --summary: lines of a key and a value
 summary() { ./bgp_replay "$@" --summary > out 2> said < "${INPUT:-/dev/null}"; }

@@ -1,19 +1,8 @@
-//! Tests of the command line: words, addresses, statuses and what lines say of records.
+//! Tests of the command line: what no run of the program shows. What runs show is in `tests/rows/words.rows`,
+//! `tests/rows/words-ipv6.rows` and `tests/program.sh`.
 #![tactic(auto)]
 
 #[cfg(test)]
-mod asked;
-#[cfg(test)]
-mod choices;
-#[cfg(test)]
-mod families;
-#[cfg(test)]
-mod ipv6;
-#[cfg(test)]
-mod peers;
-#[cfg(test)]
-mod records;
-#[cfg(test)]
-mod texts;
+mod pieces;
 #[cfg(test)]
 mod words;
