@@ -2,7 +2,8 @@
 //!
 //! `read_words` makes a `Job` of the arguments, by the kit's `clap`; its invariants are the ranges of workers and ring,
 //! and that there is a file or a list of files. `read_address` and `read_choice` are exact in both directions, as is
-//! what is reported as a bad address. What else the arguments mean is tested (`command_tests`) and not stated.
+//! what is reported as a bad address. What else the arguments mean is tested (`tests/rows`, `tests/program.sh`), and
+//! not stated.
 //!
 //! - Options, commands and columns stand in the tables of `options`, and what they say in words is made from these:
 //!   help here; manual page, README, usage page and completions by `tools/options.py`. A new option is a row there, and
