@@ -1,98 +1,93 @@
-//! Rounds of which one growth may be refused: each answers `Memory`, or what it answers with ample memory, and
-//! leaves what it says. The gate runs them with ample memory; `make growths` refuses the Nth growth of each
-//! test, for N = 1, 2 and so on. A growth that is refused to a test itself ends it with an error.
+//! Rounds of which a growth is refused. The gate runs them with ample memory, or with a map that refuses each growth;
+//! `make growths` refuses the Nth growth of the first test, for N = 1, 2 and so on. A growth that is refused to the
+//! test itself ends it with an error.
 
-use crate::playing::{PLAN, Play};
+use crate::playing::{PLAN, outcome};
 use adj_rib::RouteId;
-use bgp_prefix::{Memory, PrefixMap};
 use chunked_map::ChunkedMap;
-use fixtures::{THREE_PEERS, bytes_of};
-use lane_deal::Plan;
-use mrt_frame::{Counted, ReplayError};
-use prefix_maps::Radix;
-use std::alloc::Global;
-use std::marker::Sync;
-use std::process::Abort;
+use fixtures::{Refusing, THREE_PEERS, bytes_of};
+use lane_deal::{NoGate, Plan};
+use std::io::ErrorKind;
 use std::test::Fail;
-use std::thread::Threads;
 
-const THREE_TABLES: &str = "65000 192.0.2.1|10.0.0.0/8|65000|192.0.2.1|IGP|-|-|-|-
-65000 192.0.2.2|10.0.0.0/8|65000|192.0.2.1|IGP|-|-|-|-
-65000 192.0.2.3|10.0.0.0/8|65000|192.0.2.1|IGP|-|-|-|-
-65000 192.0.2.1|1|0|1|0|0|0|0|0|1.000000|1.000000
-65000 192.0.2.2|1|0|1|0|0|0|0|0|1.000000|1.000000
-65000 192.0.2.3|1|0|0|0|0|0|0|0|1.000000|1.000000
-";
-
-/// A replay of these bytes.
-fn play_of<'a, M: PrefixMap<RouteId, Addr = u32> + Send + Drop>(
-    rt: &impl Abort,
-    alloc: Global,
-    bytes: &'a [u8],
-    plan: Plan,
-) -> Result<Play<M, Counted<&'a [u8]>>, Memory> {
-    let mut readers = Vec::new(alloc);
-    readers.push(Counted::new(bytes))?;
-    Play::new(rt, alloc, readers, plan)
-}
-
-/// Plays rounds to the end. Answers whether there was memory for them.
-fn plays_rounds<M: PrefixMap<RouteId, Addr = u32> + Send + Drop>(
-    rt: &(impl Threads + Abort + Sync),
-    alloc: Global,
-    play: &mut Play<M, Counted<&[u8]>>,
-) -> bool {
-    for _ in 0..20u32 {
-        match play.round(rt, alloc) {
-            "End" => return true,
-            "Memory" => return false,
-            answer => assert!(rt; answer == "Blocked" || answer == "FullBatch", "{answer}"),
-        }
-    }
-    true
-}
-
-/// Expects the tables of a replay that is settled.
-fn expect_tables<M: PrefixMap<RouteId, Addr = u32> + Send + Drop>(
-    rt: &impl Abort,
-    alloc: Global,
-    play: Play<M, Counted<&[u8]>>,
-) -> Result<(), ReplayError> {
-    let (answer, text) = play.into_text(rt, alloc)?;
-    assert!(rt; answer == "Ok" && text.as_slice() == THREE_TABLES.as_bytes());
-    Ok(())
-}
-
-/// Rounds, a settling and the tables, or a replayer that is spent.
-fn play_to_the_end<M: PrefixMap<RouteId, Addr = u32> + Send + Drop>(
-    rt: &(impl Threads + Abort + Sync),
-    alloc: Global,
-    plan: Plan,
-) -> Result<(), Fail> {
-    let bytes = bytes_of(alloc, THREE_PEERS)?;
-    let mut play = play_of::<M>(rt, alloc, bytes.as_slice(), plan)?;
-    if plays_rounds(rt, alloc, &mut play) && play.settle(rt, alloc) == "Ok" {
-        expect_tables(rt, alloc, play)?;
-    } else {
-        play.expect_spent(rt, alloc);
-    }
-    Ok(())
-}
-
+/// Each round answers what it answers with ample memory, or `Memory`, after which the replayer is spent.
 #[test]
 fn rounds_give_the_tables_or_spend_the_replayer(rt: HostRuntime) -> Result<(), Fail> {
     let alloc = rt.alloc();
+    let bytes = bytes_of(alloc, THREE_PEERS)?;
     let small = Plan {
         ring: 1,
         batch: 2,
         ..PLAN
     };
-    play_to_the_end::<ChunkedMap<u32, RouteId>>(&rt, alloc, small)?;
     let alone = Plan {
         workers: 1,
         looks: 1,
         ..PLAN
     };
-    play_to_the_end::<ChunkedMap<u32, RouteId>>(&rt, alloc, alone)?;
-    play_to_the_end::<Radix<u32, RouteId>>(&rt, alloc, PLAN)
+    for plan in [small, alone, PLAN] {
+        let bytes = bytes.as_slice();
+        let (answer, found) = outcome::<ChunkedMap<u32, RouteId>, _>(
+            &rt, alloc, bytes, None, plan, &NoGate,
+        )?;
+        match found {
+            Some(counts) => assert!(rt; answer == "End" && counts == (5, 3, 3, 0), "{answer}"),
+            None => assert!(rt; answer == "End" || answer == "Memory", "{answer}"),
+        }
+    }
+    Ok(())
+}
+
+/// A worker without looks takes what was dealt in earlier rounds: its growth is refused in the second round or in the
+/// settling. A single worker that looks takes units in the round in which they are dealt.
+#[test]
+fn a_refused_growth_comes_before_other_errors_of_its_round(rt: HostRuntime) -> Result<(), Fail> {
+    let alloc = rt.alloc();
+    let broken = Some(ErrorKind::Other);
+    let single = Plan { batch: 1, ..PLAN };
+    let alone = Plan {
+        workers: 1,
+        looks: 1,
+        ..PLAN
+    };
+    let limited = Plan {
+        max_records: 1,
+        ..PLAN
+    };
+    for (words, failure, plan, wanted) in [
+        ("announcement", None, PLAN, "End"),
+        ("announcement", broken, PLAN, "Read 0"),
+        ("announcement announcement", None, limited, "Records"),
+        ("announcement", None, single, "Memory"),
+        ("announcement", broken, single, "Memory"),
+        (
+            "announcement",
+            broken,
+            Plan {
+                workers: 64,
+                ..single
+            },
+            "Memory",
+        ),
+        (
+            "announcement announcement",
+            None,
+            Plan {
+                batch: 1,
+                ..limited
+            },
+            "Memory",
+        ),
+        ("announcement", None, alone, "Memory"),
+        ("announcement", broken, alone, "Memory"),
+    ] {
+        let bytes = bytes_of(alloc, words)?;
+        let bytes = bytes.as_slice();
+        let (answer, found) = outcome::<Refusing, _>(&rt, alloc, bytes, failure, plan, &NoGate)?;
+        assert!(rt;
+            answer == wanted && found.is_none(),
+            "{answer}, and not {wanted}"
+        );
+    }
+    Ok(())
 }

@@ -1,18 +1,12 @@
-//! Tests of plans, dealings, rounds and lanes.
+//! Tests of rounds, of lanes on one thread, and of what gates are told.
 #![tactic(auto)]
 
 #[cfg(test)]
-mod devices;
+mod gates;
 #[cfg(test)]
 mod growths;
 #[cfg(test)]
-mod layers;
-#[cfg(test)]
-mod plans;
-#[cfg(test)]
 mod playing;
-#[cfg(test)]
-mod refusals;
 #[cfg(test)]
 mod rounds;
 #[cfg(test)]

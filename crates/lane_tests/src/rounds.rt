@@ -1,179 +1,129 @@
-//! Rows on replayers: rounds that are blocked, full or the last, settling, and what is left after
-//! a failure.
+//! Where rounds end, and what is left at a read that fails.
 
-use crate::playing::rows::play_rows;
+use crate::playing::{PLAN, Play, counts_of, outcome};
 use adj_rib::RouteId;
-use chunked_map::ChunkedMap;
-use prefix_maps::{Flat, Radix};
-use std::alloc::Global;
-use std::marker::Sync;
-use std::process::Abort;
-use std::thread::Threads;
+use fixtures::{THREE_PEERS, bytes_of};
+use lane_deal::{NoGate, Plan};
+use prefix_maps::Radix;
+use std::io::ErrorKind;
+use std::test::Fail;
 
-const ROUNDS: &str = "
-row settle-a-fresh-replayer
-file
-settle Ok
-shows rounds 1,dealt 0,took 0,waiting 0
-settled
-unspent
-into_tables Ok
-row ring-of-one-then-settle
-file announcement announcement announcement
-plan workers 1,ring 1
-round Blocked
-shows rounds 1,dealt 1,waiting 1,took 0
-unsettled
-settle Ok
-shows rounds 2,dealt 1,took 1,waiting 0
-settled
-into_tables Ok
-> 65000 192.0.2.1|10.0.0.0/8|65000|192.0.2.1|IGP|-|-|-|-
-> 65000 192.0.2.1|1|0|0|0|0|0|0|0|1.000000|1.000000
-row ring-of-one-second-round
-file announcement announcement announcement
-plan workers 1,ring 1
-round Blocked
-round Blocked
-shows rounds 2,took 1
-dealt 1 or 2
-row batch-of-two
-file announcement announcement announcement
-plan workers 1,batch 2
-round FullBatch
-shows rounds 1,dealt 2,waiting 2,took 0
-round End
-shows rounds 2,dealt 3,took 2,waiting 1
-round End
-shows rounds 2,dealt 3,took 2,waiting 1
-settle Ok
-shows rounds 3,dealt 3,took 3,waiting 0
-row batch-of-three
-file announcement announcement announcement
-plan workers 1,batch 3
-round FullBatch
-shows dealt 3
-round End
-shows rounds 2,dealt 3
-row blocked-unit-stays
-file announcement announcement announcement
-plan workers 1,ring 1
-round Blocked
-settle Ok
-round until End
-settle Ok
-shows dealt 3,took 3,waiting 0
-into_tables Ok
-> 65000 192.0.2.1|10.0.0.0/8|65000|192.0.2.1|IGP|-|-|-|-
-> 65000 192.0.2.1|1|0|2|0|0|0|0|0|1.000000|1.000000
-row spent-units
-file announcement announcement
-plan records 1
-units until Records
-unspent
-round Spent
-spent
-round Spent
-settle Spent
-into_tables Spent
-row too-many-records
-file announcement announcement
-plan records 1
-round Records
-spent
-round Spent
-settle Spent
-into_tables Spent
-";
-
-/// After a failed read the units before it are there.
-const SALVAGE: &str = "
-row reader-fails-inside-a-record
-broken announcement 00000001 0010 0004 00000041
-round Read 0
-unspent
-shows rounds 1,dealt 1
-round Read 0
-shows rounds 1,dealt 1
-settle Ok
-round Read 0
-settled
-into_tables Ok
-> 65000 192.0.2.1|10.0.0.0/8|65000|192.0.2.1|IGP|-|-|-|-
-> 65000 192.0.2.1|1|0|0|0|0|0|0|0|1.000000|1.000000
-row second-file-fails-at-once
-file announcement
-broken
-round Read 1
-settle Ok
-into_tables Ok
-> 65000 192.0.2.1|10.0.0.0/8|65000|192.0.2.1|IGP|-|-|-|-
-> 65000 192.0.2.1|1|0|0|0|0|0|0|0|1.000000|1.000000
-";
-
-/// A single worker that looks once takes what is dealt in the same round: no ring is full, and nothing waits after it.
-const ALONE: &str = "
-row one-worker-takes-what-is-dealt
-file announcement announcement announcement
-plan workers 1,looks 1,ring 1
-round End
-shows rounds 1,dealt 3,took 3,waiting 0
-settled
-round End
-shows rounds 1,dealt 3,took 3,waiting 0
-settle Ok
-into_tables Ok
-> 65000 192.0.2.1|10.0.0.0/8|65000|192.0.2.1|IGP|-|-|-|-
-> 65000 192.0.2.1|1|0|2|0|0|0|0|0|1.000000|1.000000
-row one-worker-ends-at-a-full-batch
-file announcement announcement announcement
-plan workers 1,looks 1,batch 2
-round FullBatch
-shows rounds 1,dealt 2,took 2,waiting 0
-settled
-round End
-shows rounds 2,dealt 3,took 3,waiting 0
-into_tables Ok
-> 65000 192.0.2.1|10.0.0.0/8|65000|192.0.2.1|IGP|-|-|-|-
-> 65000 192.0.2.1|1|0|2|0|0|0|0|0|1.000000|1.000000
-row one-worker-at-a-failed-read
-broken announcement 00000001 0010 0004 00000041
-plan workers 1,looks 1
-round Read 0
-unspent
-shows rounds 1,dealt 1,took 1,waiting 0
-settled
-round Read 0
-into_tables Ok
-> 65000 192.0.2.1|10.0.0.0/8|65000|192.0.2.1|IGP|-|-|-|-
-> 65000 192.0.2.1|1|0|0|0|0|0|0|0|1.000000|1.000000
-row one-worker-and-too-many-records
-file announcement announcement
-plan workers 1,looks 1,records 1
-round Records
-spent
-round Spent
-into_tables Spent
-";
-
-/// Plays so many rows on replayers with each map.
-fn play_each(rt: &(impl Threads + Abort + Sync), alloc: Global, table: &str, rows: usize) {
-    assert!(rt; play_rows::<Radix<u32, RouteId>>(rt, alloc, table) == rows);
-    assert!(rt; play_rows::<Flat<u32, RouteId>>(rt, alloc, table) == rows);
-    assert!(rt; play_rows::<ChunkedMap<u32, RouteId>>(rt, alloc, table) == rows);
+/// Without looks a worker takes what was dealt in earlier rounds. A single one that looks takes units in the round in
+/// which they are dealt, and passes no ring. `Ok` is the answer of a settling.
+#[test]
+fn rounds_end_blocked_full_or_at_the_end_of_the_file(rt: HostRuntime) -> Result<(), Fail> {
+    let alloc = rt.alloc();
+    let bytes = bytes_of(alloc, "announcement announcement announcement")?;
+    let one = Plan {
+        workers: 1,
+        ring: 1,
+        ..PLAN
+    };
+    let alone = Plan { looks: 1, ..one };
+    for (plan, steps) in [
+        (
+            one,
+            [
+                ("Blocked", (1, 1, 1, 0)),
+                ("Ok", (2, 1, 0, 1)),
+                ("Blocked", (3, 2, 1, 1)),
+            ],
+        ),
+        (
+            one,
+            [
+                ("Blocked", (1, 1, 1, 0)),
+                ("Ok", (2, 1, 0, 1)),
+                ("Ok", (3, 1, 0, 1)),
+            ],
+        ),
+        (
+            PLAN,
+            [
+                ("Ok", (1, 0, 0, 0)),
+                ("End", (2, 3, 3, 0)),
+                ("End", (2, 3, 3, 0)),
+            ],
+        ),
+        (
+            Plan { batch: 2, ..PLAN },
+            [
+                ("FullBatch", (1, 2, 2, 0)),
+                ("End", (2, 3, 1, 2)),
+                ("Ok", (3, 3, 0, 3)),
+            ],
+        ),
+        (
+            Plan { batch: 3, ..PLAN },
+            [
+                ("FullBatch", (1, 3, 3, 0)),
+                ("End", (2, 3, 0, 3)),
+                ("Ok", (3, 3, 0, 3)),
+            ],
+        ),
+        (
+            alone,
+            [
+                ("End", (1, 3, 0, 3)),
+                ("End", (1, 3, 0, 3)),
+                ("Ok", (2, 3, 0, 3)),
+            ],
+        ),
+        (
+            Plan { batch: 2, ..alone },
+            [
+                ("FullBatch", (1, 2, 0, 2)),
+                ("End", (2, 3, 0, 3)),
+                ("Ok", (3, 3, 0, 3)),
+            ],
+        ),
+    ] {
+        let mut play = Play::<Radix<u32, RouteId>>::new(&rt, alloc, bytes.as_slice(), None, plan)?;
+        for (wanted, counts) in steps {
+            let answer = play.step(&rt, alloc, &NoGate, wanted == "Ok");
+            assert!(rt;
+                answer == wanted && counts_of(&play.replayer) == counts,
+                "{answer}"
+            );
+        }
+    }
+    Ok(())
 }
 
+/// Files that fail at each byte: five units of three peers, and a unit with two refusals behind it.
 #[test]
-fn rounds_end_blocked_full_or_at_the_end_of_the_files(rt: HostRuntime) {
-    play_each(&rt, rt.alloc(), ROUNDS, 8);
-}
-
-#[test]
-fn after_a_failed_read_the_units_before_it_are_there(rt: HostRuntime) {
-    play_each(&rt, rt.alloc(), SALVAGE, 2);
-}
-
-#[test]
-fn one_worker_takes_what_is_dealt_in_the_same_round(rt: HostRuntime) {
-    play_each(&rt, rt.alloc(), ALONE, 4);
+fn a_failed_read_leaves_the_units_and_the_refusals_before_it(rt: HostRuntime) -> Result<(), Fail> {
+    let alloc = rt.alloc();
+    let refused = "announcement 00000001 0010 0001 00000002 0000 00000002 0010 0001 00000002 0000";
+    for (words, refuses) in [(THREE_PEERS, false), (refused, true)] {
+        let bytes = bytes_of(alloc, words)?;
+        for end in 0..=bytes.len() {
+            let plan = Plan {
+                workers: 1 + end % 4,
+                looks: (end / 4 % 2) as u32,
+                ..PLAN
+            };
+            let failure = Some(ErrorKind::Interrupted);
+            let front = &bytes.as_slice()[..end];
+            let (answer, found) = outcome::<Radix<u32, RouteId>, _>(
+                &rt, alloc, front, failure, plan, &NoGate,
+            )?;
+            let units = end / 77;
+            let peers = match units {
+                2 | 3 => 2,
+                units => units.min(3),
+            };
+            let refusals = if refuses {
+                end.saturating_sub(77) / 14
+            } else {
+                0
+            };
+            let wanted = (units as u64, peers, peers as u64, refusals);
+            assert!(rt;
+                answer == "Read 0" && found == Some(wanted),
+                "a read that fails at {end}"
+            );
+        }
+    }
+    Ok(())
 }
