@@ -1,16 +1,18 @@
 #!/usr/bin/env python3
-"""Asks the program, as tests/rows.py does, of dumps that are too long to be rows: each front of a body and of a file,
-and the greatest records.
+"""Asks the program, as tests/rows.py does, of dumps that are too long to be rows: each front of a body, of a message, of
+the attributes of a RIB entry and of a file, and the greatest records.
 
 usage: tests/fronts.py PROGRAM
 
-The last line is `N passed, M failed`. Needs Python 3 and nothing else.
+A front of n bytes is a record of its own, whose lengths are those of the front. What is wanted follows from
+docs/FORMATS.md, section 5: by family ipv6 the own fields of an UPDATE aren't examined past their lengths. The last line is `N passed, M failed`. Needs Python 3 and nothing else.
 """
+import struct
 import sys
 import tempfile
 
 sys.dont_write_bytecode = True
-from rows import PLANS, Question, bytes_of, write_dumps
+from rows import NAMES, PLANS, Question, bytes_of, write_dumps
 
 LONG_PLANS = [["--workers", "1"], ["--workers", "3"]]
 
@@ -24,6 +26,20 @@ BODIES = [
     ("000D0008", bytes_of("rib-record-with-identifier")[12:], 40),
     ("00100005", bytes_of("established-to-idle")[12:], 24),
     ("00110000", bytes_of("000000FA two-octet-session 0006 0001"), 24),
+]
+
+# Named records: where their attributes end, and each key behind them, in what stands behind the message's header.
+MESSAGES = {
+    "withdrawn-and-announced": (26, [28]), "of-three-lengths": (24, [25, 27, 30]), "two-octet-path": (39, [41]),
+    "with-identifier": (24, [30]), "reached": (31, []), "reached-by-ipv6-pair": (59, []),
+}
+
+# The family, type, subtype and key of a RIB record, the attributes of its entry, and where each attribute ends.
+HOP = "20010DB8000000000000000000000009"
+ENTRIES = [
+    ("ipv4", "000D0002", "080A", "plain-attributes", [0, 4, 13, 20]),
+    ("ipv6", "000D0004", "2020010DB8", f"plain-attributes 800E11 10 {HOP}", [0, 4, 13, 20, 40]),
+    ("ipv6", "000D0004", "2020010DB8", f"plain-attributes 900E0015 000201 10 {HOP} 00", [0, 4, 13, 20, 45]),
 ]
 
 
@@ -51,6 +67,50 @@ def fronts_of_bodies():
         dump += record(kinds, body + b"\0")
         counts = {"records": size + 2, "aside": 0, "units": 0}
         yield question(f"fronts of {kinds}", "faults", lines, size + 1, counts), [dump]
+
+
+def faults_of(before, records, faults, entry):
+    """Returns the lines of `faults` of a dump of these records behind others, of which each has a fault or none."""
+    lines, at = [], before
+    for one, fault in zip(records, faults):
+        if fault:
+            lines.append(f"1|{at}|{entry}|{fault}")
+        at += len(one)
+    return lines
+
+
+def message_fault(size, family, attributes_end, key_ends):
+    if size < 4:
+        return "11|BadLength"
+    if size < attributes_end:
+        return "12|BadUpdate"
+    return None if family == "ipv6" or size == attributes_end or size in key_ends else "9|BadPrefix"
+
+
+def fronts_of_messages():
+    """Yields a dump of each message, by each family: each front of what stands behind the message's header."""
+    for name, ends in MESSAGES.items():
+        head, session, _, update = (bytes_of(part.strip()) for part in NAMES[name].split("|"))
+        records = []
+        for size in range(len(update) + 1):
+            body = session + b"\xff" * 16 + struct.pack(">HB", 19 + size, 2) + update[:size]
+            records.append(head[:8] + struct.pack(">I", len(body)) + body)
+        for family in ("ipv4", "ipv6"):
+            lines = faults_of(0, records, [message_fault(size, family, *ends) for size in range(len(records))], "-")
+            counts = {"records": len(records), "units": len(records)}
+            yield question(f"fronts of {name}", f"faults --family {family}", lines, len(lines), counts), [b"".join(records)]
+
+
+def fronts_of_attributes():
+    """Yields a dump of RIB records of one entry, for each front of its attributes."""
+    for family, kinds, key, attributes, ends in ENTRIES:
+        whole, records = bytes_of(attributes), []
+        for size in range(len(whole) + 1):
+            entry = struct.pack(">HHIH", 1, 1, 1, size) + whole[:size]
+            records.append(record(kinds, bytes_of("00000000 " + key) + entry))
+        faults = [None if size in ends else "13|ShortAttribute" for size in range(len(records))]
+        lines, counts = faults_of(len(INDEX), records, faults, "1"), {"records": len(records) + 1, "units": len(records)}
+        yield question(f"fronts of {attributes}", f"faults --family {family}", lines, len(lines), counts), [INDEX + b"".join(records)]
 
 
 def fronts_of_a_file():
@@ -101,7 +161,8 @@ def main(program):
     passed = failed = 0
     with tempfile.TemporaryDirectory() as folder:
         # A ring of one unit would take its time for 65,535 of them.
-        for source, plans in ((fronts_of_bodies, PLANS), (fronts_of_a_file, PLANS), (greatest, LONG_PLANS)):
+        fronts = (fronts_of_bodies, fronts_of_messages, fronts_of_attributes, fronts_of_a_file)
+        for source, plans in [*((source, PLANS) for source in fronts), (greatest, LONG_PLANS)]:
             for asked, dumps in source():
                 for plan, names in zip(plans, write_dumps(dumps, f"{folder}/{passed + failed}")):
                     wrong = asked.wrong_with(program, plan, names)
