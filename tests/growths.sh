@@ -13,9 +13,7 @@ tries() { # CRATE TEST..
   for name in "$@"; do echo "$top/crates/$crate/out/${crate}_tests" ./refuse.so memory-test 1 0 none "$name"; done
 }
 {
-  tries prefix_tests prefixes::growths::a_refused_growth_leaves_the_flat_map prefixes::growths::a_refused_growth_leaves_the_radix_map \
-    prefixes::growths::a_refused_growth_leaves_the_chunked_map prefixes::growths::a_refused_growth_leaves_the_flat_map_of_ipv6 \
-    prefixes::growths::a_refused_growth_leaves_the_radix_map_of_ipv6 prefixes::growths::a_refused_growth_leaves_the_chunked_map_of_ipv6
+  tries prefix_tests prefixes::growths::a_refused_growth_leaves_each_map
   tries update_tests updates::paths::a_refused_push_leaves_the_path
   tries record_tests units::a_refused_growth_spends_the_units
   tries table_tests sessions::a_session_is_spent_after_a_refused_growth

@@ -1,9 +1,6 @@
-//! Prefixes, their order, and the maps from them.
+//! The maps from prefixes.
 
 mod drawn;
 mod growths;
-mod ipv6_rows;
 mod keys;
-mod large;
 mod leaves;
-mod map_rows;
