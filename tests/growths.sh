@@ -17,7 +17,7 @@ tries() { # CRATE TEST..
   tries update_tests updates::paths::a_refused_push_leaves_the_path
   tries record_tests units::a_refused_growth_spends_the_units
   tries table_tests sessions::a_session_is_spent_after_a_refused_growth
-  tries lane_tests growths::rounds_give_the_tables_or_spend_the_replayer layers::collect_orders_peers_by_number schedules::turns_that_find_nothing_change_nothing
+  tries lane_tests growths::rounds_give_the_tables_or_spend_the_replayer schedules::turns_that_find_nothing_change_nothing
   tries replay_tests growths::a_run_by_each_dealing_writes_its_report_or_wants_memory \
     growths::a_run_of_each_request_writes_its_report_or_wants_memory growths::words_give_their_job_or_want_memory
 } > tries

@@ -73,6 +73,7 @@ notes 'idle over IPv6' 0 "  note: $idle: 1, of 65000 2001:0db8:0000:0000:0000:00
 { index 00000001; rib6 00000001 0004; rib6 00000001 000A; } > six
 notes 'IPv6 alone' 0 '  note: no RIB record of IPv4 routes, and 2 of IPv6 routes, which aren'"'"'t read: six' tables six
 notes 'IPv6 beside messages' 0 '  note: no RIB record of IPv4 routes, and 4 of IPv6 routes, which aren'"'"'t read: six, six' tables six whole six
+notes 'IPv6 in seven files' 0 '  note: no RIB record of IPv4 routes, and 14 of IPv6 routes, which aren'"'"'t read: six, six, six, six, six and 2 more' tables six six six six six six six
 notes 'both families' 0 '' tables table six --until 0
 { index 00000001; bytes 00000001 000D 0006 00000000; } > generic; notes 'neither family' 0 '' tables generic
 
@@ -105,6 +106,7 @@ notes 'such dumps in one file' 0 '' tables --rib replace three
 notes 'dumps in six files' 0 "  note: $dumps: 6, in first, second, second, second, second and 1 more; $anew" tables first second second second second second
 notes 'not past the last second' 0 '' tables --until 1 first second
 { cat first; index 00000002; } > bare; notes 'an index table alone' 0 '' tables bare
+{ cat first; index 00000002; index 00000002; rib 00000002 0002 0000 0001; } > again; notes 'two index tables in a row' 0 "  note: $dumps: 2, in again; $anew" tables whole again
 { cat first; index 00000002; rib6 00000002 0004; } > mixed; notes 'of the other family' 0 '' tables mixed
 
 # ---- a peer twice in a record

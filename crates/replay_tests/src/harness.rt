@@ -2,7 +2,7 @@
 
 use adj_rib::RouteId;
 use bgp_prefix::PrefixMap;
-use lane_deal::{ByTurns, NoGate, Plan};
+use lane_deal::{ByTurns, Gate, NoGate, Plan};
 use mrt_frame::{Counted, ReplayError, Source};
 use mrt_replay::run;
 use peer_units::Selection;
@@ -14,7 +14,7 @@ use std::process::Abort;
 use std::test::Fail;
 use std::thread::Threads;
 
-/// The plan of the rows.
+/// The plan of the tests.
 pub const PLAN: Plan = Plan {
     workers: 2,
     ring: 4,
@@ -46,13 +46,18 @@ impl Outcome {
     }
 }
 
-/// Replays these readers by turns, into memory.
-pub fn replay_readers<M: PrefixMap<RouteId, Addr = u32> + Send + Sync + Drop, R: Source + Send>(
+/// Replays these readers by turns, into memory, beside a gate.
+pub fn replay_beside<
+    M: PrefixMap<RouteId, Addr = u32> + Send + Sync + Drop,
+    R: Source + Send,
+    G: Gate + Sync,
+>(
     rt: &(impl Threads + Abort + Sync),
     alloc: Global,
     readers: &mut [R],
     request: &Request,
     plan: &Plan,
+    gate: &G,
 ) -> Result<Outcome, Fail> {
     assert!(rt; plan.check());
     let mut out = Counted::new(Vec::<u8>::new(alloc));
@@ -65,11 +70,22 @@ pub fn replay_readers<M: PrefixMap<RouteId, Addr = u32> + Send + Sync + Drop, R:
         Selection::all(alloc),
         plan,
         &ByTurns,
-        &NoGate,
+        gate,
         &mut out,
     );
     let text = Vec::from_slice(alloc, out.device().as_slice())?;
     Ok(Outcome { result, text })
+}
+
+/// Replays these readers by turns, into memory.
+pub fn replay_readers<M: PrefixMap<RouteId, Addr = u32> + Send + Sync + Drop, R: Source + Send>(
+    rt: &(impl Threads + Abort + Sync),
+    alloc: Global,
+    readers: &mut [R],
+    request: &Request,
+    plan: &Plan,
+) -> Result<Outcome, Fail> {
+    replay_beside::<M, R, NoGate>(rt, alloc, readers, request, plan, &NoGate)
 }
 
 /// Replays files in memory.

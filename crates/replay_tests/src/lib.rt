@@ -4,6 +4,8 @@
 #[cfg(test)]
 mod devices;
 #[cfg(test)]
+mod gates;
+#[cfg(test)]
 mod growths;
 #[cfg(test)]
 mod harness;
