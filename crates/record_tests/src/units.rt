@@ -103,28 +103,35 @@ fn endless_zeros_end_at_the_limit_on_records(rt: HostRuntime) {
     assert!(rt; units.records() == 5 && units.aside() == 5);
 }
 
-/// Reads give a byte each, and one fails in place of each byte of the second file: the whole records before it are
-/// given, then the failed read, and then the same again with nothing read.
+/// Expects of two files, of which the second fails in place of its end, the whole records before that, then the failed
+/// read, and then the same again with nothing read. Reads give a byte each.
+fn expect_failed_read(rt: &impl Abort, alloc: Global, first: &[u8], second: &[u8]) {
+    let whole = second.len() / 77;
+    let mut files = [
+        Counted::new(Dripping::new(first, None)),
+        Counted::new(Dripping::new(second, Some(ErrorKind::Interrupted))),
+    ];
+    let mut units = units_of(rt, alloc, 2, 1000);
+    for _ in 0..=whole {
+        expect_answers(rt, alloc, &mut units, &mut files, "u");
+    }
+    assert!(rt; files[1].failures() == 0);
+    expect_answers(rt, alloc, &mut units, &mut files, "F");
+    let asked = files[1].device().asked;
+    expect_answers(rt, alloc, &mut units, &mut files, "FF");
+    assert!(rt; files[1].device().asked == asked && files[1].failures() == 1);
+    assert!(rt; files[0].failures() == 0);
+    assert!(rt; units.records() as usize == whole.wrapping_add(1));
+}
+
+/// A read fails in place of each byte of the second file.
 #[test]
 fn a_failed_read_comes_behind_the_whole_records(rt: HostRuntime) -> Result<(), Fail> {
     let bytes = bytes_of(rt.alloc(), THREE_PEERS)?;
-    assert!(rt; bytes.len() == 5 * 77);
+    let first = bytes_of(rt.alloc(), "announcement")?;
+    assert!(rt; bytes.len() == 5 * 77 && first.len() == 77);
     for k in 0..=bytes.len() {
-        let mut files = [
-            Counted::new(Dripping::new(&bytes.as_slice()[..77], None)),
-            Counted::new(Dripping::new(&bytes.as_slice()[..k], Some(ErrorKind::Interrupted))),
-        ];
-        let mut units = units_of(&rt, rt.alloc(), 2, 1000);
-        for _ in 0..=k / 77 {
-            expect_answers(&rt, rt.alloc(), &mut units, &mut files, "u");
-        }
-        assert!(rt; files[1].failures() == 0);
-        expect_answers(&rt, rt.alloc(), &mut units, &mut files, "F");
-        let asked = files[1].device().asked;
-        expect_answers(&rt, rt.alloc(), &mut units, &mut files, "FF");
-        assert!(rt; files[1].device().asked == asked && files[1].failures() == 1);
-        assert!(rt; files[0].failures() == 0);
-        assert!(rt; units.records() as usize == (k / 77).wrapping_add(1));
+        expect_failed_read(&rt, rt.alloc(), first.as_slice(), &bytes.as_slice()[..k]);
     }
     Ok(())
 }
