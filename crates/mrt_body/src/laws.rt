@@ -85,8 +85,8 @@ pub fn added_dumps_clear_nothing()
         All (λ unit. is_recorded unit.payload ≡ true) (units_of selection files) }
 {}
 
-/// What was given is what whole files hold that begin with what was read of them, and what files hold whose readers make
-/// their bytes known.
+/// What was given is what whole files hold that begin with what was read of them, and what files hold whose readers
+/// make their bytes known.
 pub fn tellings_are_of_files<R: Source>(_device: &R)
     ensures whole { (a b : UnitsState) (files left : List R) (taken : List Found)
         (t : AllTold R.reads files left a.file b.file (λ told now. TakesFound a told b now taken))
