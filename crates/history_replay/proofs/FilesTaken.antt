@@ -14,6 +14,7 @@ use Rattle.peer_units.specs.Plain.{Found}
 use Rattle.peer_units.specs.declared.unit.Found.TheVariants as found
 use Rattle.peer_units.specs.Plain.{Unit as ReplayUnit}
 use Rattle.mrt_body.specs.Units.{unit_of, damage_of, units_of, refused_of, records_of, aside_of, found_in, all_cuts, is_whole, is_aside}
+use Rattle.mrt_body.proofs.FilesLaws.{TakesFound-more}
 use Rattle.mrt_body.specs.ToCome.{UnitsState, TakesFound, NothingToCome, found_to_come, cuts_to_come, most_units_left, fresh_units}
 use Rattle.history_replay.specs.FilesTaken.{HasTaken, HasTakenFiles, StopsFiles, StopsReplay}
 
@@ -22,20 +23,6 @@ Bytes = List ℕ
 
 abbrev known_all : List Bytes → List (Option Bytes)
 known_all contents = map (λ bytes. Some bytes) contents
-
--- one step after another
-takes_more : (a b c : UnitsState) (first second third : List (Option Bytes)) (taken more : List Found) → TakesFound a first b second taken → TakesFound b second c third more → TakesFound a first c third (taken ++ more)
-takes_more a b c first second third taken more p q contents h =
-    let x = p contents h in
-    let y = q x.0 x.1 in (
-      y.0,
-      y.1,
-      record {
-        found = x.2.found ∙ ap (λ (l : List Found). taken ++ l) y.2.found ∙ sym (append_assoc taken more (found_to_come c y.0));
-        records = x.2.records ∙ y.2.records;
-        aside = x.2.aside ∙ y.2.aside;
-      },
-    )
 
 pub none_known : (n : ℕ) (known : List (Option Bytes)) (rest : List Bytes) → length known ≡ n → drop n known ≡ known_all rest → rest ≡ []
 none_known n known [] size e = refl
@@ -63,7 +50,7 @@ module _ {T : Type 0} (Took : T → List ReplayUnit → List Damage → Type 0) 
         let refused_are : filter_map damage_of items ≡ filter_map damage_of h.items ++ filter_map damage_of (item ∷ []) = filter_map-append damage_of h.items (item ∷ []) in
         record {
           items = items;
-          came = takes_more start now next told left later h.items (item ∷ []) h.came step;
+          came = TakesFound-more start now next told left later h.items (item ∷ []) h.came step;
           took = λ units refused first.
               subst (λ l. Took t' l (refused ++ filter_map damage_of items)) (append_assoc units (filter_map unit_of h.items) (filter_map unit_of (item ∷ [])) ∙ ap (λ l. units ++ l) (sym units_are))
               (subst (λ r. Took t' ((units ++ filter_map unit_of h.items) ++ filter_map unit_of (item ∷ [])) r) (append_assoc refused (filter_map damage_of h.items) (filter_map damage_of (item ∷ [])) ∙ ap (λ l. refused ++ l) (sym refused_are))

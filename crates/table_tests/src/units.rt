@@ -26,7 +26,7 @@ pub fn unit_of(number: u32, payload: Payload) -> Unit {
     }
 }
 
-/// The RIB entry of a prefix, by its address and its length, and of a path identifier. A length over 32 is taken for 32.
+/// The RIB entry of a prefix, by its address and its length, and of a path identifier. A length over 32 counts as 32.
 pub fn entry_of(addr: u32, len: u8, id: u32, attributes: Vec<u8>) -> Payload {
     let Some(prefix) = Prefix::new(addr, len.min(32)) else {
         unreachable!()
