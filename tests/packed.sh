@@ -4,7 +4,8 @@
 # The dumps of examples/ and a drawn one, packed by gzip, pigz, bzip2, lbzip2, pbzip2 and Python's modules, as far as these are
 # installed (what is missing is named), are read as files, by a pipe and from standard input, in one run with plain ones. Each front of
 # a packed file, and the file with each of its bits turned: the reports of the plain one, or a status that isn't 0, and no line that a
-# front of the plain dump doesn't have where the data only ends early. Needs cc. The last line is `N passed, M failed`.
+# front of the plain dump doesn't have where the data only ends early. Of these fronts and bits every third and every fifth is tried, and
+# all of them where the variable ALL is set. Needs cc. The last line is `N passed, M failed`.
 set -u
 program=$(realpath "$1"); here=$(dirname "$(realpath "$0")"); work=$(mktemp -d); trap 'rm -rf "$work"' EXIT
 export LC_ALL=C
@@ -159,13 +160,14 @@ done
 # each front and each bit of a small file: nothing but the plain one's lines with status 0, and by four threads the same as by one
 cat > damage.py <<'END'
 import subprocess, sys
-program, packed, plain, name = sys.argv[1:]
+program, packed, plain, name, front, bit = sys.argv[1:]
 data, wanted = open(packed, "rb").read(), open(plain, "rb").read()
 def run(workers):
     done = subprocess.run([program, "tables", "--workers", workers, name], capture_output=True, check=False)
     return done.returncode, done.stdout, done.stderr
 bad = tried = 0
-cases = [data[:n] for n in range(1, len(data), 3)] + [data[:i // 8] + bytes([data[i // 8] ^ 1 << i % 8]) + data[i // 8 + 1:] for i in range(0, 8 * len(data), 5)]
+cases = [data[:n] for n in range(1, len(data), int(front))]
+cases += [data[:i // 8] + bytes([data[i // 8] ^ 1 << i % 8]) + data[i // 8 + 1:] for i in range(0, 8 * len(data), int(bit))]
 for case in cases:
     with open(name, "wb") as file: file.write(case)
     status, text, said = run("1")
@@ -175,10 +177,11 @@ for case in cases:
 print(tried - bad, bad)
 END
 if has python3; then
+  if [ -n "${ALL:-}" ]; then steps='1 1'; else steps='3 5'; fi
   cp sample.mrt small.mrt; cp sample-tables small-tables
   for format in gzip bzip2; do
     has $format || continue
-    $format -9c small.mrt > small.packed; read -r good bad <<< "$(python3 damage.py "$program" small.packed small-tables damaged.$format)"
+    $format -9c small.mrt > small.packed; read -r good bad <<< "$(python3 damage.py "$program" small.packed small-tables damaged.$format $steps)"
     passed=$((passed + good)); failed=$((failed + bad)); [ "$bad" = 0 ] || echo "wrong: $bad damaged files of $format"
   done
 fi

@@ -84,10 +84,7 @@ fn a_refused_growth_comes_before_other_errors_of_its_round(rt: HostRuntime) -> R
         let bytes = bytes_of(alloc, words)?;
         let bytes = bytes.as_slice();
         let (answer, found) = outcome::<Refusing, _>(&rt, alloc, bytes, failure, plan, &NoGate)?;
-        assert!(rt;
-            answer == wanted && found.is_none(),
-            "{answer}, and not {wanted}"
-        );
+        assert!(rt; answer == wanted && found.is_none(), "{answer}");
     }
     Ok(())
 }
