@@ -67,7 +67,10 @@ class Question:
     def wrong_with(self, program, plan, files):
         """Returns what is wrong with an answer, or nothing."""
         words = [program, *self.words, *plan, "--summary", *files]
-        ran = subprocess.run(words, stdin=subprocess.DEVNULL, capture_output=True, text=True, errors="replace", timeout=60)
+        try:
+            ran = subprocess.run(words, stdin=subprocess.DEVNULL, capture_output=True, text=True, errors="replace", timeout=60)
+        except subprocess.TimeoutExpired:
+            return "no answer within 60 seconds"
         first = ran.stderr.partition("\n")[0]
         if self.refused is not None:
             return None if ran.returncode == 2 and not ran.stdout and self.refused in first else f"status {ran.returncode}: {first}"
