@@ -1,0 +1,5 @@
+pub mod MaskLaws
+pub mod PieceLaws
+pub mod CursorLaws
+pub mod CommunityLaws
+pub mod ChoiceLaws
