@@ -1,5 +1,5 @@
 -- Patterns of communities (RFC 1997; RFC 4360; RFC 5668; RFC 8092), and which routes have one that a pattern matches.
-use Rattle.std.specs.Prelude.{ℕ, zero, suc, ◌/◌, Bool, true, false, ◌&&◌, ◌==◌, List, [], ◌∷◌, length, take, drop, slice_index, Option, Some, None, if◌then◌else◌}
+use Rattle.std.specs.Prelude.{ℕ, zero, suc, ◌/◌, ◌≤◌, Bool, true, false, ◌&&◌, ◌==◌, List, [], ◌∷◌, length, take, drop, slice_index, nat_le, Option, Some, None, if◌then◌else◌}
 use Rattle.std.specs.List.{list_any}
 use Rattle.byteorder.specs.Endian.{big_number}
 use Rattle.bgp_update.specs.declared.kept_attribute.KeptAttribute.{KeptAttribute}
@@ -88,3 +88,23 @@ has_community kept pattern = matches_value pattern (value_kept (kept_code (asks 
 -- the pattern is about members of this attribute
 abbrev pub asks_for : KeptAttribute → CommunityPattern → Bool
 asks_for a pattern = kept_index (asks pattern) == kept_index a
+
+-- ---- parts that fit
+
+-- `*`, or a number of at most this
+abbrev pub IsPartWithin : ℕ → PatternPart → Type 0
+IsPartWithin most AnyValue = Unit {0}
+IsPartWithin most (Number n) = n ≤ most
+
+-- the greatest number that an extended community with this administrator has: two bytes behind four, and four behind two
+abbrev pub most_behind : Administrator → ℕ
+most_behind AnyAdministrator = 4294967295
+most_behind (Asn n) = if nat_le n 65535 then 4294967295 else 65535
+most_behind (Address a) = 65535
+
+-- each part fits its width
+abbrev pub IsFitting : CommunityPattern → Type 0
+IsFitting (Standard a b) = IsPartWithin 65535 a × IsPartWithin 65535 b
+IsFitting (Large a b c) = IsPartWithin 4294967295 a × IsPartWithin 4294967295 b × IsPartWithin 4294967295 c
+IsFitting (Extended role administrator number) = IsPartWithin (most_behind administrator) number
+IsFitting (Exactly n) = Unit {0}

@@ -22,6 +22,12 @@ pub data MaskMatches : List PathStep → List (List ℕ) → Type 0 where
   more : {step : PathStep} {mask : List PathStep} {whole : List (List ℕ)} (piece rest : List (List ℕ)) →
       whole ≡ piece ++ rest → StepMatches step piece → MaskMatches mask rest → MaskMatches (step ∷ mask) whole
 
+-- a range has its lower end first
+abbrev pub IsOrdered : PathStep → Type 0
+IsOrdered (Within first last) = first ≤ last
+IsOrdered AnyOne = Unit {0}
+IsOrdered AnyNumber = Unit {0}
+
 -- ---- by computation
 
 abbrev pub is_within : ℕ → ℕ → ℕ → Bool

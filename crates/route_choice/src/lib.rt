@@ -11,12 +11,17 @@
 
 mod choice;
 mod community;
+mod community_text;
 mod cursor;
 mod laws;
+mod mask_text;
 mod matching;
+mod number;
 mod path_mask;
 
 pub use choice::RouteChoice;
 pub use community::{Administrator, CommunityPattern, PatternPart, Role};
+pub use community_text::read_community;
 pub use laws::masks_match_by_their_steps;
+pub use mask_text::{MaskError, read_mask};
 pub use path_mask::{PathMask, PathStep};
