@@ -96,7 +96,7 @@ abbrev pub IsPartWithin : ℕ → PatternPart → Type 0
 IsPartWithin most AnyValue = Unit {0}
 IsPartWithin most (Number n) = n ≤ most
 
--- the greatest number that an extended community with this administrator has: two bytes behind four, and four behind two
+-- the greatest number that an extended community with this administrator has: two bytes behind four, four behind two
 abbrev pub most_behind : Administrator → ℕ
 most_behind AnyAdministrator = 4294967295
 most_behind (Asn n) = if nat_le n 65535 then 4294967295 else 65535
