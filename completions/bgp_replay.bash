@@ -12,6 +12,7 @@ _bgp_replay() {
     --family) mapfile -t COMPREPLY < <(compgen -W 'ipv4 ipv6' -- "$word"); return;;
     --states) mapfile -t COMPREPLY < <(compgen -W 'recorded established' -- "$word"); return;;
     --rib) mapfile -t COMPREPLY < <(compgen -W 'add replace' -- "$word"); return;;
+    --format) mapfile -t COMPREPLY < <(compgen -W 'text json' -- "$word"); return;;
     --addresses) mapfile -t COMPREPLY < <(compgen -W 'full short' -- "$word"); return;;
     --attributes) mapfile -t COMPREPLY < <(compgen -W 'communities extended large originator clusters otc all' -- "$word"); return;;
     --workers) mapfile -t COMPREPLY < <(compgen -W '1 2 4 8 16 32 64' -- "$word"); return;;
@@ -21,7 +22,7 @@ _bgp_replay() {
   if [[ -z $command ]]; then
     mapfile -t COMPREPLY < <(compgen -W "$commands help --help --version" -- "$word")
   elif [[ $word == -* ]]; then
-    local options='--files-from --family --prefix --prefixes --peer --peers --until --states --rib --addresses --attributes --header --summary --progress --quiet --workers --ring --help --version'
+    local options='--files-from --family --prefix --prefixes --peer --peers --until --states --rib --format --addresses --attributes --header --summary --progress --quiet --workers --ring --help --version'
     case $command in match) options="--address $options";; esac
     case $command in churn|history) options="--since $options";; esac
     case $command in history) options="--same $options";; esac

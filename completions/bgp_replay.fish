@@ -23,6 +23,7 @@ complete -c bgp_replay -n $some -l until -x -d 'leave out messages, state change
 complete -c bgp_replay -n '__fish_seen_subcommand_from churn history' -l since -x -d 'list or count what was recorded from this second on'
 complete -c bgp_replay -n $some -l states -x -a 'recorded established' -d 'say which state changes end a peer\'s routes'
 complete -c bgp_replay -n $some -l rib -x -a 'add replace' -d 'say what a RIB dump does to the routes before it'
+complete -c bgp_replay -n $some -l format -x -a 'text json' -d 'say how lines are written: fields with | between them, or JSON, one object a line'
 complete -c bgp_replay -n $some -l addresses -x -a 'full short' -d 'say how IPv6 addresses are printed, those of peers and of next hops alike'
 complete -c bgp_replay -n $some -l attributes -x -a 'communities extended large originator clusters otc all' -d 'keep these further attributes of routes'
 complete -c bgp_replay -n '__fish_seen_subcommand_from history' -l same -d 'list announcements of the very route that was there, too'

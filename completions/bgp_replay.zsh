@@ -28,6 +28,7 @@ _bgp_replay() {
         '--until[leave out messages, state changes and entries recorded after this second]:TIME:'
         '--states[say which state changes end a peer'\''s routes]:RULE:(recorded established)'
         '--rib[say what a RIB dump does to the routes before it]:RULE:(add replace)'
+        '--format[say how lines are written\: fields with | between them, or JSON, one object a line]:FORM:(text json)'
         '--addresses[say how IPv6 addresses are printed, those of peers and of next hops alike]:FORM:(full short)'
         '*--attributes[keep these further attributes of routes]:LIST:(communities extended large originator clusters otc all)'
         '--header[print the columns'\'' names first]'

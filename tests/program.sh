@@ -143,7 +143,7 @@ tip "  tip: '--address' is an option of match" tables --address 10.0.0.1 sample
 tip "  tip: a similar argument exists: '--until'" tables --untill 5 sample
 tip "  tip: a similar argument exists: '--addresses'" tables --adresses short sample
 tip "  tip: to pass '-sample.mrt' as a file, use '-- -sample.mrt'" tables -sample.mrt
-tip '' tables --frobnicate sample
+tip '' tables --xyzzy sample
 tip '' tables -x sample
 tip '' tables --quux=1.5 sample
 tip "  tip: to pass '--bview.20240101.mrt' as a file, use '-- --bview.20240101.mrt'" tables --bview.20240101.mrt

@@ -14,6 +14,7 @@ import textwrap
 
 TOP = os.path.dirname(os.path.dirname(os.path.abspath(__file__)))
 SOURCE = "crates/command_line/src/options.rt"
+COLUMNS = "crates/report_request/src/column.rt"
 FIELDS = {
     "OptionRow": ["name", "value", "takes", "default", "offered", "commands", "is_required", "meaning"],
     "ColumnRow": ["name", "meaning"],
@@ -378,10 +379,33 @@ def between(name, marks, part):
     return text[:start] + part + text[text.index(marks[1]):]
 
 
+def reports():
+    """The names of each report's columns, as crates/report_request/src/column.rt has them."""
+    text = read(COLUMNS)
+    keys = dict(re.findall(r'Key::([A-Za-z]+) => "([a-z_]+)"', text))
+    own = dict(re.findall(r'Column::([A-Za-z]+) => "([a-z_]+)"', text))
+    columns = {}
+    for name, value in re.findall(r"^const ([A-Z]+): \[Column; [0-9]+\] = \[([^]]*)\];", text, re.M):
+        listed = re.findall(r"Column::(?:Of\(Key::([A-Za-z]+)\)|([A-Za-z]+))", value)
+        columns[name.lower()] = [keys[key] if key else own[column] for key, column in listed]
+    columns["tables"] = columns["match"] = columns.pop("routes")
+    return columns
+
+
+def check_columns(commands):
+    """The columns that help tells of are those of the lines."""
+    columns = reports()
+    for command in commands:
+        told = [column["name"] for column in command["columns"]]
+        if told != columns.get(command["name"]):
+            fail(f"columns of {command['name']}: {SOURCE} has {told}, {COLUMNS} {columns.get(command['name'])}")
+
+
 def main():
     if sys.argv[1:] not in ([], ["--check"]):
         fail("usage: tools/options.py [--check]")
     tables = checked(Tables(read(SOURCE)))
+    check_columns(tables[1])
     texts = {
         MAN: between(MAN, MAN_MARKS, man_part(*tables)),
         USAGE: between(USAGE, PAGE_MARKS, usage_part(*tables)),

@@ -50,7 +50,7 @@ use replay_messages::{
     tell_summary, tell_write,
 };
 use replay_summary::{Summary, status};
-use report_request::Request;
+use report_request::{Format, Request};
 use rib_report::WrittenAddress;
 use std::alloc::{AllocError, Global};
 use std::env::{Env, FillError};
@@ -449,12 +449,11 @@ fn replay_ahead<F: Replayed, R: Threads + Sync>(
     outcome
 }
 
-/// Returns the line of the columns' names, if the job asks for it.
+/// Returns the line of the columns' names, if the job asks for it and its lines are text.
 fn header_of_job<F: Unicast>(alloc: Global, job: &Job<F>) -> Result<String, AllocError> {
-    if job.header {
-        header_of(alloc, &job.request, job.layout.attributes)
-    } else {
-        Ok(String::new(alloc))
+    match job.layout.format {
+        Format::Text if job.header => header_of(alloc, &job.request, job.layout.attributes),
+        _ => Ok(String::new(alloc)),
     }
 }
 

@@ -1,19 +1,8 @@
 //! The names of the attributes that a route keeps where they are asked for.
 
 use bgp_update::{AttributeSet, KeptAttribute};
+use report_request::attribute_name;
 use std::alloc::{AllocError, Global};
-
-/// Returns the name of an attribute: that of its column, by which an option asks for it.
-pub fn attribute_name(attribute: KeptAttribute) -> &'static str {
-    match attribute {
-        KeptAttribute::Communities => "communities",
-        KeptAttribute::ExtendedCommunities => "extended",
-        KeptAttribute::LargeCommunities => "large",
-        KeptAttribute::OriginatorId => "originator",
-        KeptAttribute::ClusterList => "clusters",
-        KeptAttribute::OnlyToCustomer => "otc",
-    }
-}
 
 /// Returns the names, joined by commas.
 pub(crate) fn attribute_names(alloc: Global) -> Result<String, AllocError> {

@@ -64,7 +64,6 @@ mod wrap;
 pub use address::read_address;
 pub use address_family::AddressFamily;
 pub use address_text::{AddressText, PrefixWords, hint_of_address};
-pub use attributes::attribute_name;
 pub use choice::{fault_of_reach, read_choice, read_prefix, read_reach};
 pub use file_list::{FileListError, fault_of_file_list, read_file_list};
 pub use kind::{FirstBytes, Kind};

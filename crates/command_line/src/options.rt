@@ -1,7 +1,7 @@
 //! The options, the commands and their columns: help, manual page, README, usage page and completions are made from
 //! these tables (`tools/options.py` reads this file). The names alone stand elsewhere too: of commands where they are
-//! read (`words.rt`) and in advice on packed dumps (`replay_messages/src/telling.rt`), of columns in the header
-//! (`replay_io/src/output.rt`).
+//! read (`words.rt`) and in advice on packed dumps (`replay_messages/src/telling.rt`), of columns where lines are made
+//! (`report_request/src/column.rt`).
 
 /// What an option takes behind it.
 #[derive(Clone, Copy)]
@@ -49,7 +49,7 @@ pub struct CommandRow {
     pub examples: &'static [&'static str],
 }
 
-pub static OPTIONS: [OptionRow; 20] = [
+pub static OPTIONS: [OptionRow; 21] = [
     OptionRow {
         name: "address",
         value: "A",
@@ -159,6 +159,16 @@ pub static OPTIONS: [OptionRow; 20] = [
         commands: "",
         is_required: false,
         meaning: "Say what a RIB dump does to the routes before it. With add its entries are announcements like others. With replace its first record behind an index table clears all tables, so that routes that have gone don't stay",
+    },
+    OptionRow {
+        name: "format",
+        value: "FORM",
+        takes: Takes::Text,
+        default: "text",
+        offered: "text json",
+        commands: "",
+        is_required: false,
+        meaning: "Say how lines are written: fields with | between them, or JSON, one object a line. In JSON what is absent is null, IPv6 addresses are short, and --addresses and --header have no effect",
     },
     OptionRow {
         name: "addresses",

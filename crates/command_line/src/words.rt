@@ -19,7 +19,7 @@ use bgp_update::{AttributeSet, FamilyMark, Unicast};
 use clap::error::ErrorKind;
 use clap::{ArgMatches, Error};
 use peer_units::{PeerChoice, PrefixChoice, RibRule, Share, StateRule};
-use report_request::{AddressForm, Layout, LayoutOf, Request};
+use report_request::{AddressForm, Format, Layout, LayoutOf, Request};
 use std::alloc::{AllocError, AllocFailed, Global};
 
 static WORKERS_DEFAULT: usize = 4;
@@ -244,8 +244,25 @@ fn attributes_of(alloc: Global, matches: &ArgMatches<'_>) -> Result<AttributeSet
     Ok(asked)
 }
 
-/// Returns how the lines of a report are written: the addresses of IPv6 routes are short (RFC 5952).
-fn layout_of<F: AddressText>(alloc: Global, matches: &ArgMatches<'_>) -> Result<LayoutOf<F>, Usage>
+/// Returns the form of lines.
+fn format_of(alloc: Global, matches: &ArgMatches<'_>) -> Result<Format, Usage>
+    ensures { IfErr result IsRefusal }
+{
+    match matches.get_str("format").unwrap_or("text") {
+        "text" => Ok(Format::Text),
+        "json" => Ok(Format::Json),
+        text => Err(Usage::Words(format!(in alloc;
+            "error: invalid value '{text}' for '--format <FORM>': neither text nor json\n"
+        )?)),
+    }
+}
+
+/// Returns the form of IPv6 addresses: in JSON, and those of IPv6 routes, are short (RFC 5952).
+fn address_form_of(
+    alloc: Global,
+    format: Format,
+    matches: &ArgMatches<'_>,
+) -> Result<AddressForm, Usage>
     ensures { IfErr result IsRefusal }
 {
     let form = match matches.get_str("addresses").unwrap_or("full") {
@@ -257,7 +274,20 @@ fn layout_of<F: AddressText>(alloc: Global, matches: &ArgMatches<'_>) -> Result<
             )?));
         }
     };
+    match format {
+        Format::Text => Ok(form),
+        Format::Json => Ok(AddressForm::Short),
+    }
+}
+
+/// Returns how the lines of a report are written: the addresses of IPv6 routes are short (RFC 5952).
+fn layout_of<F: AddressText>(alloc: Global, matches: &ArgMatches<'_>) -> Result<LayoutOf<F>, Usage>
+    ensures { IfErr result IsRefusal }
+{
+    let format = format_of(alloc, matches)?;
+    let form = address_form_of(alloc, format, matches)?;
     Ok(Layout {
+        format,
         peer_addresses: form,
         route_addresses: match F::FAMILY {
             AddressFamily::Ipv4 => form,

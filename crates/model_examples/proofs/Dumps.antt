@@ -8,6 +8,7 @@ use Rattle.bgp_update.specs.KeptAttributes.{no_attributes}
 use Rattle.peer_units.specs.Choices.{all_units}
 use Rattle.model_examples.proofs.Records.{marker_16, session_four, session_two, plain_attributes, announcement_of, announcement_with}
 use Rattle.ip_text.specs.declared.address_form.AddressForm.TheVariants.{Full}
+use Rattle.report_request.specs.declared.format.Format.TheVariants.{Text}
 use Rattle.report_request.specs.Plain.{Layout, Request}
 use Rattle.mrt_replay.specs.Reports.{report}
 
@@ -122,7 +123,7 @@ pub record Row : Type 0 where
 
 -- addresses in full
 abbrev pub in_full : Layout
-in_full = record { peer_addresses = Full; route_addresses = Full; family = ipv4; attributes = no_attributes }
+in_full = record { format = Text; peer_addresses = Full; route_addresses = Full; family = ipv4; attributes = no_attributes }
 
 -- these lines are the report on a file
 abbrev pub row : Request → List ℕ → List (List ℕ) → Row

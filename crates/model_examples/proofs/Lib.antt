@@ -3,6 +3,7 @@ pub mod Updates
 pub mod Units
 pub mod Sessions
 pub mod Lines
+pub mod JsonLines
 pub mod LinesOfUnits
 pub mod Dumps
 pub mod Reports

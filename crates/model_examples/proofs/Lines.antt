@@ -20,15 +20,16 @@ use Rattle.adj_rib.specs.declared.churn.Churn.{Churn}
 use Rattle.peer_tables.specs.Tables.{Seat, TablesState}
 use Rattle.ip_text.specs.declared.address_form.AddressForm.TheVariants.{Full, Short}
 use Rattle.ip_text.specs.AddressTexts.{address_text}
+use Rattle.report_request.specs.declared.format.Format.TheVariants.{Text}
 use Rattle.report_request.specs.Plain.{Layout}
 use Rattle.rib_report.specs.Reports.{route_rows, match_rows, visibility_rows, origin_rows, seen_rows, churn_rows, peer_rows, fault_rows, in_place_order}
 use Rattle.rib_report.specs.Lines.{route_line, visibility_line, origin_line, seen_line, churn_line, peer_line, fault_line}
 
-abbrev end : List ℕ
+abbrev pub end : List ℕ
 end = 10 ∷ []
 
 abbrev full : Layout
-full = record { peer_addresses = Full; route_addresses = Full; family = ipv4; attributes = no_attributes }
+full = record { format = Text; peer_addresses = Full; route_addresses = Full; family = ipv4; attributes = no_attributes }
 
 -- a route of 192.0.2.1 whose path is 65000 and another segment
 abbrev route_to : PathSegment → Route
@@ -37,7 +38,7 @@ route_to last = record { origin = Some Igp; path = Some (record { kind = AsSeque
 abbrev to_sequence : ℕ → Route
 to_sequence asn = route_to (record { kind = AsSequence; numbers = asn ∷ [] })
 
-abbrev key_of : ℕ → ℕ → ℕ → RouteKey
+abbrev pub key_of : ℕ → ℕ → ℕ → RouteKey
 key_of addr len id = record { prefix = record { addr = addr * 2 ^ 96; len = len }; id = id }
 
 abbrev seat_at : ℕ → ℕ → List (RouteKey × Route) → Seat
@@ -56,7 +57,7 @@ seat_at number addr table = record {
 }
 
 -- two peers; the first has 10.0.0.0/8 under two identifiers
-abbrev tables : TablesState
+abbrev pub tables : TablesState
 tables = record {
   seats = seat_at 0 0xc0000201 ((key_of 0 0 0, to_sequence 65001) ∷ (key_of 0x0a000000 8 0, to_sequence 65001) ∷ (key_of 0x0a000000 8 7, to_sequence 65002) ∷ [])
       ∷ seat_at 1 0xc0000202 ((key_of 0x0a000000 8 0, to_sequence 65001) ∷ (key_of 0x0a010000 16 0, route_to (record { kind = AsSet; numbers = 65003 ∷ 65001 ∷ [] })) ∷ []) ∷ [];
@@ -83,7 +84,7 @@ matched : flat_map (route_line full) (match_rows tables (0x0a01ffff * 2 ^ 96))
 unfolding digits address_text
 matched = refl
 
-listed : flat_map fault_line (fault_rows tables) ≡ codes "1|56|2|14|BadAttribute(1)" ++ end ++ codes "1|56|2|14|BadAttribute(1)" ++ end
+listed : flat_map (fault_line full) (fault_rows tables) ≡ codes "1|56|2|14|BadAttribute(1)" ++ end ++ codes "1|56|2|14|BadAttribute(1)" ++ end
 unfolding digits
 listed = refl
 
@@ -115,13 +116,13 @@ whole = refl
 
 -- ---- lines of rows with each field at its greatest, or absent
 
-abbrev peer : PeerKey
+abbrev pub peer : PeerKey
 peer = record { asn = 65000; addr = V4 0xc0000201 }
 
-abbrev last_peer : PeerKey
+abbrev pub last_peer : PeerKey
 last_peer = record { asn = 0xffffffff; addr = V6 0xffffffffffffffffffffffffffffffff }
 
-abbrev bare_route : Route
+abbrev pub bare_route : Route
 bare_route = record { origin = None; path = None; next_hop = None; med = None; local_pref = None; atomic = false; aggregator = None; kept = [] }
 
 -- an absent path is not an empty one
@@ -135,7 +136,7 @@ unfolding digits address_text
 empty_path = refl
 
 -- a path with a segment of each kind
-abbrev greatest_route : Route
+abbrev pub greatest_route : Route
 greatest_route = record {
   origin = Some Incomplete;
   path = Some (record { kind = ConfedSequence; numbers = 64512 ∷ 1 ∷ [] } ∷ record { kind = ConfedSet; numbers = 3 ∷ 2 ∷ [] }
@@ -157,10 +158,10 @@ greatest_entry = refl
 -- ---- short addresses, of peers and of next hops alike, and of one of them
 
 abbrev short : Layout
-short = record { peer_addresses = Short; route_addresses = Short; family = ipv4; attributes = no_attributes }
+short = record { format = Text; peer_addresses = Short; route_addresses = Short; family = ipv4; attributes = no_attributes }
 
 abbrev routes_short : Layout
-routes_short = record { peer_addresses = Full; route_addresses = Short; family = ipv4; attributes = no_attributes }
+routes_short = record { format = Text; peer_addresses = Full; route_addresses = Short; family = ipv4; attributes = no_attributes }
 
 abbrev short_peer : PeerKey
 short_peer = record { asn = 65000; addr = V6 0x20010db8000000000001000000000001 }
@@ -183,10 +184,10 @@ short_peer_line = refl
 -- ---- prefixes of IPv6, in full and short
 
 abbrev full_routes : Layout
-full_routes = record { peer_addresses = Short; route_addresses = Full; family = ipv6; attributes = no_attributes }
+full_routes = record { format = Text; peer_addresses = Short; route_addresses = Full; family = ipv6; attributes = no_attributes }
 
 abbrev short_routes : Layout
-short_routes = record { peer_addresses = Full; route_addresses = Short; family = ipv6; attributes = no_attributes }
+short_routes = record { format = Text; peer_addresses = Full; route_addresses = Short; family = ipv6; attributes = no_attributes }
 
 abbrev wide_key : ℕ → ℕ → ℕ → RouteKey
 wide_key addr len id = record { prefix = record { addr = addr; len = len }; id = id }
@@ -252,7 +253,7 @@ peer_without_units = refl
 abbrev damage_at : ℕ → ℕ → Option ℕ → Fault → Damage
 damage_at file offset entry fault = record { place = record { file = file; offset = offset; entry = entry }; fault = fault }
 
-each_fault : flat_map fault_line (damage_at 0 0 None ShortHeader ∷ damage_at 0 0 None ShortBody ∷ damage_at 0 77 None BodyTooLong ∷ damage_at 1 0 None ShortRecord ∷ damage_at 1 0 None TrailingBytes
+each_fault : flat_map (fault_line full) (damage_at 0 0 None ShortHeader ∷ damage_at 0 0 None ShortBody ∷ damage_at 0 77 None BodyTooLong ∷ damage_at 1 0 None ShortRecord ∷ damage_at 1 0 None TrailingBytes
     ∷ damage_at 1 0 None BadFamily ∷ damage_at 1 0 None NoPeerIndex ∷ damage_at 1 0 None BadPeerIndex ∷ damage_at 1 0 None BadPrefix ∷ damage_at 1 0 None BadMarker ∷ damage_at 1 0 None BadLength
     ∷ damage_at 1 0 None BadUpdate ∷ damage_at 1 0 None ShortAttribute ∷ damage_at 1 0 None (BadAttribute 0) ∷ damage_at 1 0 None BadPath ∷ [])
     ≡ codes "1|0|-|1|ShortHeader" ++ end ++ codes "1|0|-|2|ShortBody" ++ end ++ codes "1|77|-|3|BodyTooLong" ++ end ++ codes "2|0|-|4|ShortRecord" ++ end ++ codes "2|0|-|5|TrailingBytes" ++ end
@@ -261,7 +262,7 @@ each_fault : flat_map fault_line (damage_at 0 0 None ShortHeader ∷ damage_at 0
 unfolding digits
 each_fault = refl
 
-greatest_fault : fault_line (damage_at 0xffffffffffffffff 0xffffffffffffffff (Some 65535) (BadAttribute 255)) ≡ codes "18446744073709551616|18446744073709551615|65535|14|BadAttribute(255)" ++ end
+greatest_fault : fault_line full (damage_at 0xffffffffffffffff 0xffffffffffffffff (Some 65535) (BadAttribute 255)) ≡ codes "18446744073709551616|18446744073709551615|65535|14|BadAttribute(255)" ++ end
 unfolding digits
 greatest_fault = refl
 

@@ -28,6 +28,7 @@ use Rattle.peer_tables.specs.Peers.{peers_of}
 use Rattle.peer_tables.specs.Tables.{tables_of}
 use Rattle.ip_text.specs.declared.address_form.AddressForm.TheVariants.{Full}
 use Rattle.ip_text.specs.AddressTexts.{address_text}
+use Rattle.report_request.specs.declared.format.Format.TheVariants.{Text}
 use Rattle.report_request.specs.Plain.{Layout}
 use Rattle.rib_report.specs.Reports.{route_rows, match_rows, visibility_rows, origin_rows, seen_rows, churn_rows, fault_rows}
 use Rattle.rib_report.specs.Lines.{route_line, visibility_line, origin_line, seen_line, churn_line, fault_line}
@@ -36,7 +37,7 @@ abbrev end : List ℕ
 end = 10 ∷ []
 
 abbrev full : Layout
-full = record { peer_addresses = Full; route_addresses = Full; family = ipv4; attributes = no_attributes }
+full = record { format = Text; peer_addresses = Full; route_addresses = Full; family = ipv4; attributes = no_attributes }
 
 -- a message of a second, at an offset, of 65000 and this address
 abbrev message : ℕ → ℕ → ℕ → Bool → List ℕ → ReplayUnit
@@ -105,6 +106,6 @@ unfolding digits items_after attribute_at attributes_in value_fault route_from e
 counted = refl
 
 -- a refusal stands before a damaged unit of its place
-listed : flat_map fault_line (fault_rows (tables_of units refused)) ≡ codes "1|200|-|7|NoPeerIndex" ++ end ++ codes "1|200|-|14|BadAttribute(1)" ++ end
+listed : flat_map (fault_line full) (fault_rows (tables_of units refused)) ≡ codes "1|200|-|7|NoPeerIndex" ++ end ++ codes "1|200|-|14|BadAttribute(1)" ++ end
 unfolding digits items_after attribute_at attributes_in value_fault route_from entry_route route_in path_in segment_at segment_field_at written_key_at keys_in route_keys_in key_at reach_in reach_at hop_at unreach_in next_hop_of reached_keys unreached_keys fields_in said_update update_in message_in message_event_in event_in unit_steps steps_of route_eq outcomes_of churn_of damaged_of table_of session_of peers_of tables_of
 listed = refl

@@ -52,7 +52,7 @@ lines_of (request.Churn since) layout tables = flat_map (churn_line layout) (chu
 lines_of request.Peers layout tables = flat_map (peer_line layout) (peer_rows tables)
 lines_of (request.Match addr) layout tables =
     flat_map (route_line layout) (match_rows tables addr)
-lines_of request.Faults layout tables = flat_map fault_line (fault_rows tables)
+lines_of request.Faults layout tables = flat_map (fault_line layout) (fault_rows tables)
 lines_of (request.History since same) layout tables = []
 
 -- the lines of the rows of what happened, or where none is listed those of the counts of watches

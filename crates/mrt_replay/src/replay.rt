@@ -343,7 +343,7 @@ fn write_report<
         Request::Churn { since: _ } => write_churn(out, layout, churn(alloc, tables)?.as_slice()),
         Request::Peers => write_peers(out, layout, peers(alloc, tables)?.as_slice()),
         Request::Match(addr) => write_rows(out, layout, matches(alloc, tables, *addr)?.as_slice()),
-        Request::Faults => write_faults(out, faults(alloc, tables)?.as_slice()),
+        Request::Faults => write_faults(out, layout, faults(alloc, tables)?.as_slice()),
         Request::History { since: _, same: _ } => Ok(()),
     }
 }

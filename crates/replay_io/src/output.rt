@@ -6,33 +6,11 @@ ghost use Rattle.replay_io.specs.Devices.{report_contents};
 
 use crate::progress::Board;
 use bgp_update::{AttributeSet, KeptAttribute};
-use command_line::attribute_name;
 use mrt_frame::Counted;
-use report_request::Request;
+use report_request::{Request, attribute_name, columns};
 use run_io::Headed;
 use std::alloc::{AllocError, Global};
 use std::io::{self, Stdout, Write};
-
-static HISTORY_COLUMNS: &str =
-    "time|peer|what|by|prefix|as_path|next_hop|origin|med|local_pref|atomic|aggregator";
-
-static ROUTE_COLUMNS: &str = "peer|prefix|as_path|next_hop|origin|med|local_pref|atomic|aggregator";
-
-/// Returns the names of the columns that a report has in any case.
-fn columns<A>(request: &Request<A>) -> &'static str {
-    match request {
-        Request::Tables | Request::Match(_) => ROUTE_COLUMNS,
-        Request::Visibility => "prefix|peers",
-        Request::Origins => "prefix|origins",
-        Request::Seen => "prefix|origin|peers",
-        Request::Churn { since: _ } => {
-            "peer|new|changed|same|gone|void|resets|idle|refused|first|last"
-        }
-        Request::Peers => "peer|state|routes|units|first|last|file|offset|entry",
-        Request::History { since: _, same: _ } => HISTORY_COLUMNS,
-        Request::Faults => "file|offset|entry|number|fault",
-    }
-}
 
 /// Whether the lines of a report have the columns of further attributes.
 fn lists_routes<A>(request: &Request<A>) -> bool {
@@ -48,7 +26,13 @@ pub fn header_of<A>(
     request: &Request<A>,
     attributes: AttributeSet,
 ) -> Result<String, AllocError> {
-    let mut header = String::from_str(alloc, columns(request))?;
+    let mut header = String::new(alloc);
+    for column in columns(request) {
+        if !header.is_empty() {
+            header.push('|')?;
+        }
+        header.push_str(column.name())?;
+    }
     if lists_routes(request) {
         for attribute in &KeptAttribute::ALL {
             if attributes.has(*attribute) {

@@ -2,7 +2,9 @@
 
 ghost use Rattle.std.specs.Prelude.{◌≡◌};
 ghost use Rattle.bgp_update.specs.KeptAttributes.{no_attributes};
+ghost use Rattle.report_request.specs.declared.format.Format.TheVariants.{Text};
 
+use crate::format::Format;
 use bgp_update::{AttributeSet, FamilyMark, Unicast};
 use ip_text::AddressForm;
 
@@ -10,6 +12,8 @@ use ip_text::AddressForm;
 #[derive(Clone, Copy)]
 #[derive_where(Debug, PartialEq, Eq)]
 pub struct Layout<K = FamilyMark> {
+    /// As text, or as JSON.
+    pub format: Format,
     /// The form of the IPv6 addresses of peers.
     pub peer_addresses: AddressForm,
     /// The form of the IPv6 addresses of routes: of their prefixes and next hops.
@@ -25,12 +29,18 @@ pub struct Layout<K = FamilyMark> {
 pub type LayoutOf<F> = Layout<FamilyMark<F>>;
 
 impl<F: Unicast> Layout<FamilyMark<F>> {
-    /// Returns one form for all addresses, without further attributes.
+    /// Returns text with one form for all addresses, without further attributes.
     pub fn all(form: AddressForm) -> LayoutOf<F>
-        ensures { result
-            ≡ record { peer_addresses = form; route_addresses = form; family = F.family; attributes = no_attributes } }
+        ensures { result ≡ record {
+          format = Text;
+          peer_addresses = form;
+          route_addresses = form;
+          family = F.family;
+          attributes = no_attributes;
+        } }
     {
         Layout {
+            format: Format::Text,
             peer_addresses: form,
             route_addresses: form,
             family: FamilyMark::new(),

@@ -1,8 +1,7 @@
 -- The columns of attributes that are asked for.
-use Rattle.std.proofs.Common.{◌≡◌, ℕ, zero, suc, ◌+◌, ◌*◌, ◌/◌, ◌<◌, ◌≤◌, ◌∷◌, ◌++◌, List, [], true, sym, ap, ◌∙◌, subst, refl, append_assoc, append-nil, length, take, drop, map, arith, length-drop}
+use Rattle.std.proofs.Common.{◌≡◌, ℕ, zero, suc, ◌+◌, ◌*◌, ◌/◌, ◌<◌, ◌≤◌, ◌∷◌, ◌++◌, List, [], Bool, true, sym, ap, ◌∙◌, subst, refl, append_assoc, append-nil, length, take, drop, map, arith, length-drop}
 use Rattle.std.proofs.lemmas.Bool.{eqb-true}
 use Rattle.std.proofs.Math.Nat.{div-mul-le_self}
-use Rattle.std.proofs.lemmas.List.Concat.{flat_map-append}
 use Rattle.std.specs.List.{flat_map}
 use Rattle.bgp_update.specs.declared.kept_attribute.AttributeSet.{AttributeSet}
 use Rattle.bgp_update.specs.declared.kept_attribute.KeptAttribute.{KeptAttribute}
@@ -13,22 +12,27 @@ use Rattle.std.specs.Prelude.{decimal, slice_index}
 use Rattle.byteorder.specs.Endian.{big_number}
 use Rattle.ip_text.specs.Digits.{ipv4_text}
 use Rattle.rib_report.specs.Texts.{TextState, Adds}
-use Rattle.rib_report.specs.KeptTexts.{administrated_text, kept_column, kept_text, member_text, members_in}
+use Rattle.report_request.specs.declared.format.Format.{Format}
+use Rattle.report_request.specs.declared.format.Format.TheVariants.{Text, Json}
+use Rattle.rib_report.specs.Cells.{Cell}
+use Rattle.rib_report.specs.KeptTexts.{administrated_text, kept_text, members_in, shown_member}
 use Rattle.rib_report.proofs.TextLaws.{Adds_as, Adds_none, Adds_trans}
 use Rattle.rib_report.proofs.JoinLaws.{join-cons}
-use Rattle.rib_report.specs.LineParts.{barred, line_end}
+use Rattle.rib_report.specs.LineParts.{cells_behind, end_as, line_end}
+use Rattle.rib_report.proofs.RowLines.{cells_behind-append}
 
--- each attribute's columns behind a bar, or all of them
-pub barred_columns : (asked : AttributeSet) (kept : List KeptValue) (attributes : List KeptAttribute)
-    → flat_map (λ a. barred (kept_column asked kept a)) attributes ≡ barred (flat_map (kept_column asked kept) attributes)
-barred_columns asked kept [] = refl
-barred_columns asked kept (a ∷ attributes) =
-    ap (λ l. barred (kept_column asked kept a) ++ l) (barred_columns asked kept attributes)
-    ∙ sym (flat_map-append (λ (f : List ℕ). 124 ∷ f) (kept_column asked kept a) (flat_map (kept_column asked kept) attributes))
+-- each attribute's cells behind those before, or all of them
+pub behind_each : (format : Format) (f : KeptAttribute → List Cell) (attributes : List KeptAttribute)
+    → flat_map (λ a. cells_behind format (f a)) attributes ≡ cells_behind format (flat_map f attributes)
+behind_each Text f [] = refl
+behind_each Json f [] = refl
+behind_each format f (a ∷ attributes) =
+    ap (λ l. cells_behind format (f a) ++ l) (behind_each format f attributes) ∙ cells_behind-append format (f a) (flat_map f attributes)
 
 -- where none is asked for there is no column
-pub no_columns : (asked : AttributeSet) (kept : List KeptValue) → is_empty asked ≡ true → line_end asked kept ≡ 10 ∷ []
-no_columns asked kept none = subst (λ (n : ℕ). line_end (record { bits = n }) kept ≡ 10 ∷ []) (sym (eqb-true asked.bits 0 none)) refl
+pub no_columns : (format : Format) (asked : AttributeSet) (kept : List KeptValue) → is_empty asked ≡ true → line_end format asked kept ≡ end_as format
+no_columns Text asked kept none = subst (λ (n : ℕ). line_end Text (record { bits = n }) kept ≡ 10 ∷ []) (sym (eqb-true asked.bits 0 none)) refl
+no_columns Json asked kept none = subst (λ (n : ℕ). line_end Json (record { bits = n }) kept ≡ 125 ∷ 10 ∷ []) (sym (eqb-true asked.bits 0 none)) refl
 
 -- ---- members
 
@@ -50,42 +54,42 @@ of_address name m type a n = rw (type, a, n) refl
 pub of_four_octet_as : (name m : List ℕ) {asn number : ℕ} → slice_index m 0 ≡ 2 → asn ≡ big_number 4 (drop 2 m) → number ≡ big_number 2 (drop 6 m) → name ++ (decimal asn ++ 58 ∷ decimal number) ≡ administrated_text name m
 of_four_octet_as name m type a n = rw (type, a, n) refl
 
--- members behind a space each
-abbrev pub spaced : KeptAttribute → List (List ℕ) → List ℕ
-spaced a ms = flat_map (λ m. 32 ∷ member_text a m) ms
+-- members, each behind a byte
+abbrev pub spaced : Bool → ℕ → KeptAttribute → List (List ℕ) → List ℕ
+spaced quotes separator a ms = flat_map (λ m. separator ∷ shown_member quotes a m) ms
 
--- Of so many members of a value, each behind a space, some are written, and so many are left in the rest.
-pub record HasWritten (a : KeptAttribute) (s t : TextState) (count size : ℕ) (value : List ℕ) (left : ℕ) (rest : List ℕ) : Type 0 where
+-- Of so many members of a value, each behind a byte, some are written, and so many are left in the rest.
+pub record HasWritten (quotes : Bool) (separator : ℕ) (a : KeptAttribute) (s t : TextState) (count size : ℕ) (value : List ℕ) (left : ℕ) (rest : List ℕ) : Type 0 where
   pub written : List ℕ
   pub adds : Adds s t written
-  pub whole : spaced a (members_in count size value) ≡ written ++ spaced a (members_in left size rest)
+  pub whole : spaced quotes separator a (members_in count size value) ≡ written ++ spaced quotes separator a (members_in left size rest)
   pub room : left * size ≤ length rest
 
-pub written_none : (a : KeptAttribute) (s : TextState) (count size : ℕ) (value : List ℕ) → count * size ≤ length value → HasWritten a s s count size value count value
-written_none a s count size value room = record { written = []; adds = Adds_none; whole = refl; room = room }
+pub written_none : (quotes : Bool) (separator : ℕ) (a : KeptAttribute) (s : TextState) (count size : ℕ) (value : List ℕ) → count * size ≤ length value → HasWritten quotes separator a s s count size value count value
+written_none quotes separator a s count size value room = record { written = []; adds = Adds_none; whole = refl; room = room }
 
-pub written_more : {a : KeptAttribute} {s t u : TextState} {count size before left : ℕ} {value rest behind : List ℕ} → HasWritten a s t count size value before rest → before ≡ suc left → behind ≡ drop size rest
-    → Adds t u (32 ∷ member_text a (take size rest)) → HasWritten a s u count size value left behind
-written_more {a = a} {size = size} {left = left} {rest = rest} {behind = behind} h less rest_is one =
-    let some : spaced a (members_in (suc left) size rest) ≡ (32 ∷ member_text a (take size rest)) ++ spaced a (members_in left size behind) = ap (λ r. (32 ∷ member_text a (take size rest)) ++ spaced a (members_in left size r)) (sym rest_is) in
+pub written_more : {quotes : Bool} {separator : ℕ} {a : KeptAttribute} {s t u : TextState} {count size before left : ℕ} {value rest behind : List ℕ} → HasWritten quotes separator a s t count size value before rest → before ≡ suc left → behind ≡ drop size rest
+    → Adds t u (separator ∷ shown_member quotes a (take size rest)) → HasWritten quotes separator a s u count size value left behind
+written_more {quotes = quotes} {separator = separator} {a = a} {size = size} {left = left} {rest = rest} {behind = behind} h less rest_is one =
+    let some : spaced quotes separator a (members_in (suc left) size rest) ≡ (separator ∷ shown_member quotes a (take size rest)) ++ spaced quotes separator a (members_in left size behind) = ap (λ r. (separator ∷ shown_member quotes a (take size rest)) ++ spaced quotes separator a (members_in left size r)) (sym rest_is) in
     record {
-      written = h.written ++ 32 ∷ member_text a (take size rest);
+      written = h.written ++ separator ∷ shown_member quotes a (take size rest);
       adds = Adds_trans h.adds one;
-      whole = h.whole ∙ ap (λ n. h.written ++ spaced a (members_in n size rest)) less ∙ ap (λ l. h.written ++ l) some ∙ sym (append_assoc h.written (32 ∷ member_text a (take size rest)) (spaced a (members_in left size behind)));
+      whole = h.whole ∙ ap (λ n. h.written ++ spaced quotes separator a (members_in n size rest)) less ∙ ap (λ l. h.written ++ l) some ∙ sym (append_assoc h.written (separator ∷ shown_member quotes a (take size rest)) (spaced quotes separator a (members_in left size behind)));
       room = (let room : suc left * size ≤ length rest = subst (λ n. n * size ≤ length rest) less h.room in omega (arith, room, ap length rest_is, length-drop size rest));
     }
 
-pub written_all : {a : KeptAttribute} {s t : TextState} {count size left : ℕ} {value rest : List ℕ} → HasWritten a s t count size value left rest → left ≡ 0 → Adds s t (spaced a (members_in count size value))
-written_all {a = a} {size = size} {rest = rest} h none = Adds_as (sym (h.whole ∙ ap (λ n. h.written ++ spaced a (members_in n size rest)) none ∙ append-nil h.written)) h.adds
+pub written_all : {quotes : Bool} {separator : ℕ} {a : KeptAttribute} {s t : TextState} {count size left : ℕ} {value rest : List ℕ} → HasWritten quotes separator a s t count size value left rest → left ≡ 0 → Adds s t (spaced quotes separator a (members_in count size value))
+written_all {quotes = quotes} {separator = separator} {a = a} {size = size} {rest = rest} h none = Adds_as (sym (h.whole ∙ ap (λ n. h.written ++ spaced quotes separator a (members_in n size rest)) none ∙ append-nil h.written)) h.adds
 
--- the first member, and the others behind a space each
-pub value_in_parts : (a : KeptAttribute) (value rest : List ℕ) (size more : ℕ) → size ≡ (kept_form a).size → length value / size ≡ suc more → rest ≡ drop size value
-    → member_text a (take size value) ++ spaced a (members_in more size rest) ≡ kept_text a value
-value_in_parts a value rest size more size_is e rest_is =
-    ap (λ r. member_text a (take size value) ++ spaced a (members_in more size r)) rest_is
-    ∙ sym (join-cons 32 (member_text a) (take size value) (members_in more size (drop size value)))
-    ∙ ap (λ n. join_with_byte 32 (map (member_text a) (members_in n size value))) (sym e)
-    ∙ ap (λ n. join_with_byte 32 (map (member_text a) (members_in (length value / n) n value))) size_is
+-- the first member, and the others behind a byte each
+pub value_in_parts : (quotes : Bool) (separator : ℕ) (a : KeptAttribute) (value rest : List ℕ) (size more : ℕ) → size ≡ (kept_form a).size → length value / size ≡ suc more → rest ≡ drop size value
+    → shown_member quotes a (take size value) ++ spaced quotes separator a (members_in more size rest) ≡ kept_text quotes separator a value
+value_in_parts quotes separator a value rest size more size_is e rest_is =
+    ap (λ r. shown_member quotes a (take size value) ++ spaced quotes separator a (members_in more size r)) rest_is
+    ∙ sym (join-cons separator (shown_member quotes a) (take size value) (members_in more size (drop size value)))
+    ∙ ap (λ n. join_with_byte separator (map (shown_member quotes a) (members_in n size value))) (sym e)
+    ∙ ap (λ n. join_with_byte separator (map (shown_member quotes a) (members_in (length value / n) n value))) size_is
 
 -- members behind the first one have room behind it
 pub others_fit : (size : ℕ) (value rest : List ℕ) (more : ℕ) → length value / size ≡ suc more → rest ≡ drop size value → more * size ≤ length rest
@@ -94,5 +98,5 @@ others_fit size value rest more e rest_is =
     omega (arith, all, ap length rest_is, length-drop size value)
 
 -- a value too short for a member has no text
-pub value_without_members : (a : KeptAttribute) (value : List ℕ) → length value / (kept_form a).size ≡ 0 → kept_text a value ≡ []
-value_without_members a value e = ap (λ n. join_with_byte 32 (map (member_text a) (members_in n (kept_form a).size value))) e
+pub value_without_members : (quotes : Bool) (separator : ℕ) (a : KeptAttribute) (value : List ℕ) → length value / (kept_form a).size ≡ 0 → kept_text quotes separator a value ≡ []
+value_without_members quotes separator a value e = ap (λ n. join_with_byte separator (map (shown_member quotes a) (members_in n (kept_form a).size value))) e

@@ -1,7 +1,10 @@
 pub mod TextLaws
 pub mod JoinLaws
 pub mod RowLines
+pub mod HistoryParts
 pub mod KeptColumns
+pub mod JsonLaws
+pub mod ValueLaws
 pub mod LineBlockLaws
 pub mod LineBlockLists
 pub mod RunLaws

@@ -1,64 +1,142 @@
--- The lines of a route and of what happened, in parts.
-use Rattle.std.proofs.Common.{◌≡◌, List, ℕ, ◌∷◌, ◌++◌, Option, Some, None, sym, ap, ◌∙◌, [], append_assoc, append-nil}
-use Rattle.std.specs.Prelude.{codes, decimal}
-use Rattle.std.specs.List.{join_with_byte}
+-- Lines in the parts in which they are written.
+use Rattle.std.proofs.Common.{◌≡◌, List, ℕ, ◌∷◌, ◌++◌, Option, Some, None, refl, sym, ap, ◌∙◌, subst, [], append_assoc, append-nil, map, length, ◌<◌, arith}
+use Rattle.std.proofs.lemmas.List.{map-append}
+use Rattle.std.specs.List.{flat_map, join_with_byte}
 use Rattle.std.proofs.lemmas.List.Concat.{flat_map-append}
+use Rattle.bgp_update.specs.declared.kept_attribute.AttributeSet.{AttributeSet}
 use Rattle.bgp_update.specs.declared.route.Route.{Route}
+use Rattle.bgp_update.specs.KeptAttributes.{KeptValue}
+use Rattle.report_request.specs.declared.format.Format.{Format}
+use Rattle.report_request.specs.declared.format.Format.TheVariants.{Text, Json}
+use Rattle.report_request.specs.Columns.{column_keys}
 use Rattle.report_request.specs.Plain.{Layout}
 use Rattle.rib_report.specs.Rows.{TableRow}
-use Rattle.rib_report.specs.Fields.{line, field}
-use Rattle.rib_report.specs.KeptTexts.{kept_columns}
-use Rattle.rib_report.specs.Lines.{peer_text, key_text, path_text, next_hop_text, origin_text, atomic_text, aggregator_text, route_line}
-use Rattle.rib_report.specs.LineParts.{attribute_fields, barred, line_beginning, line_end}
-use Rattle.rib_report.specs.HistoryLines.{listed_fields}
+use Rattle.report_request.specs.declared.column.Key.{Key}
+use Rattle.rib_report.specs.Cells.{Cell, all_members, fields, fields_of, line_by, member, members, quoted, texts}
+use Rattle.std.specs.Prelude.{codes}
+use Rattle.bgp_prefix.specs.Prefixes.{IpPrefix}
+use Rattle.report_request.specs.declared.column.Key.TheVariants as key
+use Rattle.rib_report.specs.Fields.{field, numbers_text}
+use Rattle.rib_report.specs.KeptTexts.{kept_cells}
+use Rattle.rib_report.specs.Lines.{attribute_cells, key_cell, key_text, origins_cell, path_cell, path_text, peer_cell, peer_text, prefix_cell, prefix_text, row_cells}
+use Rattle.rib_report.specs.LineParts.{attribute_fields, behind, cells_behind, end_as, line_beginning, line_end, line_front}
 
--- fields, and others behind them
-join_behind : (x : List ℕ) (xs ys : List (List ℕ)) → join_with_byte 124 ((x ∷ xs) ++ ys) ≡ join_with_byte 124 (x ∷ xs) ++ barred ys
-join_behind x [] [] = sym (append-nil x)
-join_behind x [] (y ∷ ys) = ap (λ l. x ++ 124 ∷ l) (join_behind y [] ys)
-join_behind x (z ∷ xs) ys = ap (λ l. x ++ 124 ∷ l) (join_behind z xs ys) ∙ sym (append_assoc x (124 ∷ join_with_byte 124 (z ∷ xs)) (barred ys))
+-- ---- pieces with a byte between them
 
--- fields behind a bar each
-barred_joined : (x : List ℕ) (xs : List (List ℕ)) → 124 ∷ join_with_byte 124 (x ∷ xs) ≡ barred (x ∷ xs)
-barred_joined x xs = ap (λ l. 124 ∷ l) (join_behind x [] xs)
+-- pieces, and others behind them
+join_behind : (separator : ℕ) (x : List ℕ) (xs ys : List (List ℕ))
+    → join_with_byte separator ((x ∷ xs) ++ ys) ≡ join_with_byte separator (x ∷ xs) ++ behind separator ys
+join_behind separator x [] [] = sym (append-nil x)
+join_behind separator x [] (y ∷ ys) = ap (λ l. x ++ separator ∷ l) (join_behind separator y [] ys)
+join_behind separator x (z ∷ xs) ys =
+    ap (λ l. x ++ separator ∷ l) (join_behind separator z xs ys)
+    ∙ sym (append_assoc x (separator ∷ join_with_byte separator (z ∷ xs)) (behind separator ys))
 
--- what stands between two texts, in parts
-nested : (j p m b n : List ℕ) → j ++ (p ++ (m ++ (b ++ n))) ≡ (j ++ ((p ++ m) ++ b)) ++ n
-nested j p m b n =
-    ap (λ l. j ++ l) (sym (append_assoc p m (b ++ n)) ∙ sym (append_assoc (p ++ m) b n)) ∙ sym (append_assoc j ((p ++ m) ++ b) n)
+-- pieces behind a byte each
+pub behind_joined : (separator : ℕ) (x : List ℕ) (xs : List (List ℕ))
+    → separator ∷ join_with_byte separator (x ∷ xs) ≡ behind separator (x ∷ xs)
+behind_joined separator x xs = ap (λ l. separator ∷ l) (join_behind separator x [] xs)
 
--- fields, then one behind a bar, then others, and at last the columns of attributes with the end of the line
-pub line_in_parts : (x : List ℕ) (xs : List (List ℕ)) (path h : List ℕ) (hs columns : List (List ℕ))
-    → join_with_byte 124 (x ∷ xs) ++ ((124 ∷ path) ++ ((124 ∷ join_with_byte 124 (h ∷ hs)) ++ (barred columns ++ 10 ∷ [])))
-    ≡ line ((x ∷ xs) ++ (path ∷ ((h ∷ hs) ++ columns)))
-line_in_parts x xs path h hs columns =
-    let front = join_with_byte 124 (x ∷ xs) in
-    let some : (124 ∷ path) ++ (124 ∷ join_with_byte 124 (h ∷ hs)) ≡ barred (path ∷ h ∷ hs) = ap (λ l. (124 ∷ path) ++ l) (barred_joined h hs) in
-    let rest : ((124 ∷ path) ++ (124 ∷ join_with_byte 124 (h ∷ hs))) ++ barred columns ≡ barred ((path ∷ h ∷ hs) ++ columns) =
-    ap (λ l. l ++ barred columns) some ∙ sym (flat_map-append (λ (f : List ℕ). 124 ∷ f) (path ∷ h ∷ hs) columns) in
-    nested front (124 ∷ path) (124 ∷ join_with_byte 124 (h ∷ hs)) (barred columns) (10 ∷ [])
-    ∙ ap (λ l. (front ++ l) ++ 10 ∷ []) rest
-    ∙ ap (λ l. l ++ 10 ∷ []) (sym (join_behind x xs ((path ∷ h ∷ hs) ++ columns)))
+pub all_behind : (separator : ℕ) (xs : List (List ℕ)) → 0 < length xs → separator ∷ join_with_byte separator xs ≡ behind separator xs
+all_behind separator [] some = absurd (omega (arith, some))
+all_behind separator (x ∷ xs) some = behind_joined separator x xs
 
--- what a line has behind the key
-abbrev pub behind_key : Layout → Option Route → List ℕ
-behind_key layout None = codes "|-|-|-|-|-|-|-" ++ line_end layout.attributes []
-behind_key layout (Some route) =
-    (124 ∷ field path_text route.path) ++ (attribute_fields layout route ++ line_end layout.attributes route.kept)
+-- ---- cells
 
--- the fields behind the next hop
-abbrev later_fields : Route → List (List ℕ)
-later_fields route =
-    field origin_text route.origin ∷ field decimal route.med ∷ field decimal route.local_pref ∷ atomic_text route.atomic
-    ∷ field aggregator_text route.aggregator ∷ []
+all_members-append : (cells more : List Cell) → all_members (cells ++ more) ≡ all_members cells ++ all_members more
+all_members-append cells more =
+    ap members (flat_map-append (λ (c : Cell). fields_of (column_keys c.column) c.values) cells more)
+    ∙ map-append (λ (f : Key × List ℕ). member f.0 f.1) (fields cells) (fields more)
 
-pub row_in_parts : (layout : Layout) (row : TableRow)
-    → line_beginning (record { key = row.peer; layout = layout }) row.key ++ behind_key layout (Some row.route) ≡ route_line layout row
-row_in_parts layout row =
-    ap (λ l. l ++ behind_key layout (Some row.route)) (append_assoc (peer_text layout row.peer) (124 ∷ []) (key_text layout row.key))
-    ∙ line_in_parts (peer_text layout row.peer) (key_text layout row.key ∷ []) (field path_text row.route.path) (field (next_hop_text layout) row.route.next_hop) (later_fields row.route) (kept_columns layout.attributes row.route.kept)
+texts-append : (cells more : List Cell) → texts (cells ++ more) ≡ texts cells ++ texts more
+texts-append cells more = map-append (λ (c : Cell). c.text) cells more
 
-pub history_in_parts : (layout : Layout) (a b c d k : List ℕ) (o : Option Route)
-    → (a ++ 124 ∷ (b ++ 124 ∷ (c ++ 124 ∷ (d ++ 124 ∷ k)))) ++ behind_key layout o ≡ line (a ∷ b ∷ c ∷ d ∷ k ∷ listed_fields layout o)
-history_in_parts layout a b c d k None = line_in_parts a (b ∷ c ∷ d ∷ k ∷ []) (codes "-") (codes "-") (codes "-" ∷ codes "-" ∷ codes "-" ∷ codes "-" ∷ codes "-" ∷ []) (kept_columns layout.attributes [])
-history_in_parts layout a b c d k (Some route) = line_in_parts a (b ∷ c ∷ d ∷ k ∷ []) (field path_text route.path) (field (next_hop_text layout) route.next_hop) (later_fields route) (kept_columns layout.attributes route.kept)
+pub cells_behind-append : (format : Format) (cells more : List Cell)
+    → cells_behind format cells ++ cells_behind format more ≡ cells_behind format (cells ++ more)
+cells_behind-append Text cells more =
+    sym (ap (behind 124) (texts-append cells more) ∙ flat_map-append (λ (p : List ℕ). 124 ∷ p) (texts cells) (texts more))
+cells_behind-append Json cells more =
+    sym (ap (behind 44) (all_members-append cells more)
+    ∙ flat_map-append (λ (p : List ℕ). 44 ∷ p) (all_members cells) (all_members more))
+
+-- cells, others behind them, and the end
+line_in_two : (format : Format) (front back : List Cell) (t m : List ℕ) (ts ms : List (List ℕ))
+    → texts front ≡ t ∷ ts → all_members front ≡ m ∷ ms
+    → line_front format front ++ (cells_behind format back ++ end_as format) ≡ line_by format (front ++ back)
+line_in_two Text front back t m ts ms fields objects =
+    sym (append_assoc (join_with_byte 124 (texts front)) (behind 124 (texts back)) (10 ∷ []))
+    ∙ ap (λ l. l ++ 10 ∷ []) (
+    ap (λ l. join_with_byte 124 l ++ behind 124 (texts back)) fields ∙ sym (join_behind 124 t ts (texts back))
+    ∙ ap (λ l. join_with_byte 124 (l ++ texts back)) (sym fields) ∙ ap (join_with_byte 124) (sym (texts-append front back)))
+line_in_two Json front back t m ts ms fields objects =
+    ap (λ l. 123 ∷ l) (sym (append_assoc (join_with_byte 44 (all_members front)) (behind 44 (all_members back)) (125 ∷ 10 ∷ []))
+    ∙ ap (λ l. l ++ 125 ∷ 10 ∷ []) (
+    ap (λ l. join_with_byte 44 l ++ behind 44 (all_members back)) objects ∙ sym (join_behind 44 m ms (all_members back))
+    ∙ ap (λ l. join_with_byte 44 (l ++ all_members back)) (sym objects)
+    ∙ ap (join_with_byte 44) (sym (all_members-append front back))))
+
+-- cells, others behind them, and at last the columns of attributes with the end of the line
+pub line_in_parts : (format : Format) (front middle : List Cell) (asked : AttributeSet) (kept : List KeptValue)
+    (t m : List ℕ) (ts ms : List (List ℕ)) → texts front ≡ t ∷ ts → all_members front ≡ m ∷ ms
+    → line_front format front ++ (cells_behind format middle ++ line_end format asked kept)
+    ≡ line_by format (front ++ (middle ++ kept_cells asked kept))
+line_in_parts format front middle asked kept t m ts ms fields objects =
+    ap (λ l. line_front format front ++ l) (
+    sym (append_assoc (cells_behind format middle) (cells_behind format (kept_cells asked kept)) (end_as format))
+    ∙ ap (λ l. l ++ end_as format) (cells_behind-append format middle (kept_cells asked kept)))
+    ∙ line_in_two format front (middle ++ kept_cells asked kept) t m ts ms fields objects
+
+-- ---- routes
+
+-- what text has behind the key
+pub text_behind_key : (layout : Layout) (route : Route)
+    → (124 ∷ field path_text route.path) ++ (attribute_fields layout route ++ line_end Text layout.attributes route.kept)
+    ≡ cells_behind Text (path_cell route.path ∷ attribute_cells layout route) ++ line_end Text layout.attributes route.kept
+text_behind_key layout route =
+    let path = 124 ∷ field path_text route.path in
+    let end = line_end Text layout.attributes route.kept in
+    ap (λ l. path ++ (l ++ end)) (all_behind 124 (texts (attribute_cells layout route)) (omega arith))
+    ∙ sym (append_assoc path (cells_behind Text (attribute_cells layout route)) end)
+
+pub text_row_in_parts : (layout : Layout) (row : TableRow)
+    → line_beginning (record { key = row.peer; layout = layout }) row.key
+    ++ ((124 ∷ field path_text row.route.path)
+    ++ (attribute_fields layout row.route ++ line_end Text layout.attributes row.route.kept))
+    ≡ line_by Text (row_cells layout row)
+text_row_in_parts layout row =
+    let middle = path_cell row.route.path ∷ attribute_cells layout row.route in
+    let end = line_end Text layout.attributes row.route.kept in
+    ap (λ l. line_beginning (record { key = row.peer; layout = layout }) row.key ++ l) (text_behind_key layout row.route)
+    ∙ ap (λ l. l ++ (cells_behind Text middle ++ end)) (append_assoc (peer_text layout row.peer) (124 ∷ []) (key_text layout row.key))
+    ∙ line_in_parts Text (peer_cell layout row.peer ∷ key_cell layout row.key ∷ []) middle layout.attributes row.route.kept _ _ _ _ refl refl
+
+-- ---- JSON
+
+pub attributes_in_json : (layout : Layout) (route : Route)
+    → 44 ∷ join_with_byte 44 (all_members (attribute_cells layout route)) ≡ cells_behind Json (attribute_cells layout route)
+attributes_in_json layout route = all_behind 44 (all_members (attribute_cells layout route)) (omega arith)
+
+-- what JSON has behind the key
+pub json_behind_key : (layout : Layout) (route : Route)
+    → cells_behind Json (path_cell route.path ∷ []) ++ (cells_behind Json (attribute_cells layout route) ++ line_end Json layout.attributes route.kept)
+    ≡ cells_behind Json (path_cell route.path ∷ attribute_cells layout route) ++ line_end Json layout.attributes route.kept
+json_behind_key layout route =
+    sym (append_assoc (cells_behind Json (path_cell route.path ∷ [])) (cells_behind Json (attribute_cells layout route)) (line_end Json layout.attributes route.kept))
+    ∙ ap (λ l. l ++ line_end Json layout.attributes route.kept) (cells_behind-append Json (path_cell route.path ∷ []) (attribute_cells layout route))
+
+pub json_row_in_parts : (layout : Layout) (row : TableRow)
+    → line_front Json (peer_cell layout row.peer ∷ key_cell layout row.key ∷ [])
+    ++ (cells_behind Json (path_cell row.route.path ∷ attribute_cells layout row.route) ++ line_end Json layout.attributes row.route.kept)
+    ≡ line_by Json (row_cells layout row)
+json_row_in_parts layout row =
+    line_in_parts Json (peer_cell layout row.peer ∷ key_cell layout row.key ∷ []) (path_cell row.route.path ∷ attribute_cells layout row.route)
+    layout.attributes row.route.kept _ _ _ _ refl refl
+
+pub origins_in_json : (layout : Layout) (p : IpPrefix) (origins : List ℕ)
+    → (123 ∷ member key.Prefix (quoted (prefix_text layout p))) ++ (codes ",\"origin_asns\":[" ++ (numbers_text 44 origins ++ codes "]}\n"))
+    ≡ line_by Json (prefix_cell layout p ∷ origins_cell origins ∷ [])
+origins_in_json layout p origins =
+    let prefix = member key.Prefix (quoted (prefix_text layout p)) in
+    let list = member key.OriginAsns (91 ∷ numbers_text 44 origins ++ 93 ∷ []) in
+    sym (ap (λ l. 123 ∷ l) (append_assoc prefix (44 ∷ list) (125 ∷ 10 ∷ [])
+    ∙ ap (λ l. prefix ++ (codes ",\"origin_asns\":[" ++ l)) (append_assoc (numbers_text 44 origins) (93 ∷ []) (125 ∷ 10 ∷ []))))

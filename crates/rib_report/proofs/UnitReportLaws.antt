@@ -78,7 +78,7 @@ pub HasReportsOf-standing : (tables : TablesState) (units : List ReplayUnit) (re
 HasReportsOf-standing tables units refused h = subst (HasReportsOf units refused) (sym (AreTablesOf-only tables units refused h)) (HasReportsOf-tables_of units refused)
 
 same_texts : (one : TablesState) → HaveSameTexts one one
-same_texts one = record { routes = λ layout. refl; matches = λ layout addr. refl; visibility = λ layout. refl; origins = λ layout. refl; seen = λ layout. refl; churn = λ layout. refl; peers = λ layout. refl; faults = refl }
+same_texts one = record { routes = λ layout. refl; matches = λ layout addr. refl; visibility = λ layout. refl; origins = λ layout. refl; seen = λ layout. refl; churn = λ layout. refl; peers = λ layout. refl; faults = λ layout. refl }
 
 pub HaveSameTexts-standing : (one other : TablesState) (units : List ReplayUnit) (refused : List Damage) → AreTablesOf one units refused → AreTablesOf other units refused → HaveSameTexts one other
 HaveSameTexts-standing one other units refused a b = subst (HaveSameTexts one) (AreTablesOf-only one units refused a ∙ sym (AreTablesOf-only other units refused b)) (same_texts one)

@@ -1,15 +1,19 @@
 -- The lines of what happened.
-use Rattle.std.specs.Prelude.{ℕ, List, [], ◌∷◌, Option, Some, None, codes, decimal}
+use Rattle.std.specs.Prelude.{ℕ, List, [], ◌∷◌, ◌++◌, Option, Some, None, codes}
 use Rattle.bgp_update.specs.declared.route.Route.{Route}
 use Rattle.adj_rib.specs.declared.outcome.What.{What}
 use Rattle.adj_rib.specs.declared.outcome.What.TheVariants.{New, Changed, Same, Gone, Void, Lost}
 use Rattle.peer_tables.specs.declared.history.By.{By}
 use Rattle.peer_tables.specs.declared.history.By.TheVariants.{Rib, Update, State}
 use Rattle.peer_tables.specs.Histories.{RowState}
+use Rattle.report_request.specs.declared.column.Column.TheVariants as column
+use Rattle.report_request.specs.declared.column.Key.{Key}
+use Rattle.report_request.specs.declared.column.Key.TheVariants as key
 use Rattle.report_request.specs.Plain.{Layout}
-use Rattle.rib_report.specs.Fields.{line, field, time_text}
-use Rattle.rib_report.specs.KeptTexts.{kept_columns}
-use Rattle.rib_report.specs.Lines.{peer_text, key_text, route_fields}
+use Rattle.rib_report.specs.Cells.{Cell, line_by, word}
+use Rattle.rib_report.specs.Fields.{time_text}
+use Rattle.rib_report.specs.KeptTexts.{kept_cells}
+use Rattle.rib_report.specs.Lines.{aggregator_cell, key_cell, path_cell, peer_cell, route_cells}
 
 abbrev pub what_text : What → List ℕ
 what_text New = codes "new"
@@ -24,13 +28,28 @@ by_text Rib = codes "rib"
 by_text Update = codes "update"
 by_text State = codes "state"
 
--- those of a route; `-` in each where there is none
-abbrev pub listed_fields : Layout → Option Route → List (List ℕ)
-listed_fields layout None =
-    codes "-" ∷ codes "-" ∷ codes "-" ∷ codes "-" ∷ codes "-" ∷ codes "-" ∷ codes "-" ∷ kept_columns layout.attributes []
-listed_fields layout (Some route) = route_fields layout route
+-- `-` and `null` where there is no route, and no origin AS
+abbrev pub absent : Key → Cell
+absent k = record { column = column.Of k; text = codes "-"; values = codes "null" ∷ [] }
 
--- time, peer, what happened, what brought it about, key, and the fields of its route
+abbrev pub no_route : List Cell
+no_route =
+    path_cell None ∷ absent key.NextHop ∷ absent key.Origin ∷ absent key.Med ∷ absent key.LocalPref ∷ absent key.Atomic
+    ∷ aggregator_cell None ∷ []
+
+abbrev pub listed_cells : Layout → Option Route → List Cell
+listed_cells layout None = no_route ++ kept_cells layout.attributes []
+listed_cells layout (Some route) = route_cells layout route
+
+abbrev pub moment : ℕ → Cell
+moment time = record { column = column.Time; text = time_text time; values = time_text time ∷ [] }
+
+-- time, peer, what happened, what brought it about, and key
+abbrev pub event_cells : Layout → RowState → List Cell
+event_cells layout row =
+    moment row.time ∷ peer_cell layout row.peer ∷ word key.What (what_text row.note.what) ∷ word key.By (by_text row.by)
+    ∷ key_cell layout row.note.key ∷ []
+
+-- these, and the fields of its route
 abbrev pub history_line : Layout → RowState → List ℕ
-history_line layout row = line (time_text row.time ∷ peer_text layout row.peer ∷ what_text row.note.what ∷ by_text row.by
-    ∷ key_text layout row.note.key ∷ listed_fields layout row.note.route)
+history_line layout row = line_by layout.format (event_cells layout row ++ listed_cells layout row.note.route)

@@ -1,6 +1,6 @@
 -- The texts of attributes that a route keeps where they are asked for (RFC 1997; RFC 4360; RFC 8092; RFC 4456, section 8;
 -- RFC 9234, section 5).
-use Rattle.std.specs.Prelude.{ℕ, zero, suc, ◌/◌, ◌%◌, false, List, [], ◌∷◌, ◌++◌, map, length, take, drop, slice_index, codes, decimal, if◌then◌else◌, ◌==◌}
+use Rattle.std.specs.Prelude.{ℕ, zero, suc, ◌/◌, ◌%◌, Bool, true, false, List, [], ◌∷◌, ◌++◌, map, length, take, drop, slice_index, codes, decimal, if◌then◌else◌, ◌==◌}
 use Rattle.std.specs.List.{flat_map, join_with_byte}
 use Rattle.std.specs.Fmt.{digit_glyph}
 use Rattle.byteorder.specs.Endian.{big_number}
@@ -9,6 +9,9 @@ use Rattle.bgp_update.specs.declared.kept_attribute.KeptAttribute.{KeptAttribute
 use Rattle.bgp_update.specs.declared.kept_attribute.KeptAttribute.TheVariants.{Communities, ExtendedCommunities, LargeCommunities, OriginatorId, ClusterList, OnlyToCustomer}
 use Rattle.bgp_update.specs.declared.kept_attribute.AttributeSet.{AttributeSet}
 use Rattle.bgp_update.specs.KeptAttributes.{KeptValue, all_kept, has, kept_code, kept_form, value_kept}
+use Rattle.report_request.specs.declared.column.Column.TheVariants as column
+use Rattle.report_request.specs.declared.column.Key.TheVariants as key
+use Rattle.rib_report.specs.Cells.{Cell, or_null, quoted}
 use Rattle.rib_report.specs.Fields.{field}
 
 -- ---- members
@@ -58,19 +61,40 @@ abbrev pub members_in : ℕ → ℕ → List ℕ → List (List ℕ)
 members_in zero size value = []
 members_in (suc count) size value = take size value ∷ members_in count size (drop size value)
 
-abbrev pub members : KeptAttribute → List ℕ → List (List ℕ)
-members a value = members_in (length value / (kept_form a).size) (kept_form a).size value
+abbrev pub members_in_value : KeptAttribute → List ℕ → List (List ℕ)
+members_in_value a value = members_in (length value / (kept_form a).size) (kept_form a).size value
 
--- its members in recorded order, with a space between them
-abbrev pub kept_text : KeptAttribute → List ℕ → List ℕ
-kept_text a value = join_with_byte 32 (map (member_text a) (members a value))
+-- a member's text, in quotes or plain
+abbrev pub shown_member : Bool → KeptAttribute → List ℕ → List ℕ
+shown_member false a m = member_text a m
+shown_member true a m = quoted (member_text a m)
+
+-- its members in recorded order, with a byte between them
+abbrev pub kept_text : Bool → ℕ → KeptAttribute → List ℕ → List ℕ
+kept_text quotes separator a value = join_with_byte separator (map (shown_member quotes a) (members_in_value a value))
 
 -- ---- columns
 
--- the column of an attribute, if it is asked for
-abbrev pub kept_column : AttributeSet → List KeptValue → KeptAttribute → List (List ℕ)
-kept_column asked kept a = if has asked a then field (kept_text a) (value_kept (kept_code a) kept) ∷ [] else []
+-- a list of texts, a text, or the number of an AS
+abbrev pub kept_json : KeptAttribute → List ℕ → List ℕ
+kept_json OriginatorId value = kept_text true 44 OriginatorId value
+kept_json OnlyToCustomer value = kept_text false 44 OnlyToCustomer value
+kept_json Communities value = 91 ∷ kept_text true 44 Communities value ++ 93 ∷ []
+kept_json ExtendedCommunities value = 91 ∷ kept_text true 44 ExtendedCommunities value ++ 93 ∷ []
+kept_json LargeCommunities value = 91 ∷ kept_text true 44 LargeCommunities value ++ 93 ∷ []
+kept_json ClusterList value = 91 ∷ kept_text true 44 ClusterList value ++ 93 ∷ []
+
+abbrev pub kept_cell : List KeptValue → KeptAttribute → Cell
+kept_cell kept a = record {
+  column = column.Of (key.Kept a);
+  text = field (kept_text false 32 a) (value_kept (kept_code a) kept);
+  values = or_null (kept_json a) (value_kept (kept_code a) kept) ∷ [];
+}
+
+-- the cell of an attribute, if it is asked for
+abbrev pub cell_if_asked : AttributeSet → List KeptValue → KeptAttribute → List Cell
+cell_if_asked asked kept a = if has asked a then kept_cell kept a ∷ [] else []
 
 -- those of the attributes that are asked for, in the order of columns
-abbrev pub kept_columns : AttributeSet → List KeptValue → List (List ℕ)
-kept_columns asked kept = flat_map (kept_column asked kept) all_kept
+abbrev pub kept_cells : AttributeSet → List KeptValue → List Cell
+kept_cells asked kept = flat_map (cell_if_asked asked kept) all_kept

@@ -1,5 +1,6 @@
 pub mod Texts
 pub mod Fields
+pub mod Cells
 pub mod Plain
 pub mod Runs
 pub mod Merges
@@ -12,3 +13,5 @@ pub mod Lines
 pub mod LineParts
 pub mod UnitReports
 pub mod HistoryLines
+pub mod HistoryParts
+pub mod JsonValues

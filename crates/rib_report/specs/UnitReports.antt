@@ -120,4 +120,5 @@ pub record HaveSameTexts (one other : TablesState) : Type 0 where
       flat_map (churn_line layout) (churn_rows one) ≡ flat_map (churn_line layout) (churn_rows other)
   pub peers : (layout : Layout) →
       flat_map (peer_line layout) (peer_rows one) ≡ flat_map (peer_line layout) (peer_rows other)
-  pub faults : flat_map fault_line (fault_rows one) ≡ flat_map fault_line (fault_rows other)
+  pub faults : (layout : Layout) →
+      flat_map (fault_line layout) (fault_rows one) ≡ flat_map (fault_line layout) (fault_rows other)

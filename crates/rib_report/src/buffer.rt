@@ -2,6 +2,7 @@
 
 ghost use Rattle.std.specs.Prelude.{◌≡◌, ◌+◌, ◌-◌, ◌*◌, ◌<◌, ◌≤◌, [], ◌∷◌, ◌++◌, true, length};
 ghost use Rattle.std.specs.List.{between};
+ghost use Rattle.report_request.specs.declared.format.Format.TheVariants.{Text};
 ghost use Rattle.rib_report.specs.Fields.{numbers_text};
 ghost use Rattle.rib_report.specs.LineParts.{attribute_fields, line_beginning, line_end};
 ghost use Rattle.rib_report.specs.Texts.{empty_buffer, Adds};
@@ -14,7 +15,7 @@ use crate::text::Text;
 use bgp_prefix::{Prefix, RouteKey};
 use bgp_update::{PackedSegment, RouteRef, Unicast};
 use ip_text::{DecimalTable, WrittenAddress, format_byte};
-use report_request::LayoutOf;
+use report_request::{Format, LayoutOf};
 use std::marker::Model;
 
 /// The maximum number of pending bytes.
@@ -143,7 +144,7 @@ pub(crate) fn put_attributes<T: Text, F: Unicast>(
     route: &RouteRef<'_>,
 )
     ensures { Adds (T.state text.old) (T.state text.new)
-        (attribute_fields layout route.now ++ line_end layout.attributes route.now.kept) }
+        (attribute_fields layout route.now ++ line_end Text layout.attributes route.now.kept) }
 {
     let asked = layout.attributes;
     text.make_room(ATTRIBUTES_BYTES);
@@ -153,7 +154,7 @@ pub(crate) fn put_attributes<T: Text, F: Unicast>(
         buffer.len = format_byte(&mut buffer.bytes, at, b'\n');
     } else {
         buffer.len = at;
-        put_route_end(text, asked, route);
+        put_route_end(text, Format::Text, asked, route);
     }
 }
 

@@ -2,6 +2,7 @@
 
 ghost use Rattle.std.specs.Prelude.{◌≡◌, ℕ, ◌+◌, ◌-◌, ◌^◌, ◌<◌, ◌≤◌, ◌++◌, [], ◌∷◌, List, decimal, length, min};
 ghost use Rattle.ip_text.specs.Formats.{Formats};
+ghost use Rattle.rib_report.specs.Cells.{or_null};
 ghost use Rattle.rib_report.specs.Fields.{field, time_text};
 ghost use Rattle.ip_text.specs.Ipv6Texts.{ipv6_text};
 ghost use Rattle.ip_text.specs.AddressTexts.{address_text};
@@ -177,7 +178,8 @@ impl Field for Microseconds {
 
 /// Returns a time as a field.
 pub(crate) fn time_field(time: Option<u64>) -> Option<Microseconds>
-    ensures { field (λ t. time_text t.0) result ≡ field time_text time }
+    ensures text { field (λ t. time_text t.0) result ≡ field time_text time }
+    ensures json { or_null (λ t. time_text t.0) result ≡ or_null time_text time }
 {
     time.map(Microseconds)
 }
@@ -193,7 +195,7 @@ pub(crate) fn entry_field(entry: Option<u16>) -> Option<u32>
 
 /// Writes an address of a peer.
 #[inline(always)]
-fn format_addr(
+pub(crate) fn format_addr(
     bytes: &mut [u8],
     at: usize,
     shorts: &DecimalTable,
@@ -308,6 +310,13 @@ impl<F: Unicast> PeerText<F> {
         ensures { result ≡ self.now.layout }
     {
         self.peer.layout
+    }
+
+    /// The peer.
+    pub(crate) fn peer(&self) -> &ShownPeerOf<F>
+        ensures { result.now ≡ self.now }
+    {
+        &self.peer
     }
 
     /// Writes the text and the bar.

@@ -1,20 +1,23 @@
 //! The columns of the attributes that a route keeps where they are asked for.
 
-ghost use Rattle.std.specs.Prelude.{◌≡◌, ◌≤◌, ◌∷◌, ◌++◌, [], MatchOption, decimal, length};
+ghost use Rattle.std.specs.Prelude.{◌≡◌, ◌≤◌, ◌∷◌, ◌++◌, [], decimal, length};
 ghost use Rattle.std.specs.List.{flat_map};
 ghost use Rattle.bgp_update.specs.KeptAttributes.{kept_form};
+ghost use Rattle.report_request.specs.declared.format.Format.TheVariants.{Text, Json};
 ghost use Rattle.rib_report.specs.KeptTexts.{
   administrated_text,
   byte_digits,
+  cell_if_asked,
   extended_text,
   hexadecimal_text,
-  kept_column,
-  kept_columns,
+  kept_cell,
+  kept_cells,
+  kept_json,
   kept_text,
   member_text,
+  shown_member,
 };
-ghost use Rattle.rib_report.specs.Fields.{field};
-ghost use Rattle.rib_report.specs.LineParts.{barred, line_end};
+ghost use Rattle.rib_report.specs.LineParts.{cells_behind, line_end};
 ghost use Rattle.rib_report.specs.Texts.{Adds};
 ghost use Rattle.ip_text.specs.Digits.{ipv4_text};
 
@@ -24,6 +27,7 @@ use crate::text::Text;
 use bgp_update::{AttributeSet, KeptAttribute, KeptValues, RouteRef};
 use byteorder::{BigEndian, ByteOrder};
 use ip_text::{DecimalTable, format_byte, format_ipv4, hexadecimal_digit};
+use report_request::{Format, attribute_name};
 
 /// An IPv4 address.
 #[derive(Clone, Copy)]
@@ -144,82 +148,154 @@ fn put_member<T: Text>(text: &mut T, attribute: KeptAttribute, member: &[u8])
     }
 }
 
-/// Adds the members of a value.
-fn put_value<T: Text>(text: &mut T, attribute: KeptAttribute, value: &[u8])
-    ensures { Adds (T.state text.old) (T.state text.new) (kept_text attribute value.now) }
+/// Adds a member of an attribute's value, in quotes or plain.
+fn put_shown_member<T: Text>(text: &mut T, quotes: bool, attribute: KeptAttribute, member: &[u8])
+    requires { length member.now ≡ (kept_form attribute).size }
+    ensures { Adds (T.state text.old) (T.state text.new) (shown_member quotes attribute member.now) }
+{
+    if !quotes {
+        return put_member(text, attribute, member);
+    }
+    put(text, Byte(b'"'));
+    put_member(text, attribute, member);
+    put(text, Byte(b'"'));
+}
+
+/// Adds the members of a value, with a byte between them.
+fn put_value<T: Text>(
+    text: &mut T,
+    quotes: bool,
+    separator: u8,
+    attribute: KeptAttribute,
+    value: &[u8],
+)
+    ensures { Adds (T.state text.old) (T.state text.new) (kept_text quotes separator attribute value.now) }
 {
     let size = attribute.member_size();
     let count = value.len() / size;
     if count == 0 {
         return;
     }
-    put_member(text, attribute, &value[..size]);
+    put_shown_member(text, quotes, attribute, &value[..size]);
     let mut rest = &value[size..];
     for i in 1..count {
-        put(text, Byte(b' '));
-        put_member(text, attribute, &rest[..size]);
+        put(text, Byte(separator));
+        put_shown_member(text, quotes, attribute, &rest[..size]);
         rest = &rest[size..];
     }
 }
 
-/// Adds a bar and the column of an attribute, if it is asked for.
-fn put_column<T: Text>(
+/// Adds a value in JSON.
+fn put_json_value<T: Text>(text: &mut T, attribute: KeptAttribute, value: &[u8])
+    ensures { Adds (T.state text.old) (T.state text.new) (kept_json attribute value.now) }
+{
+    match attribute {
+        KeptAttribute::OriginatorId => put_value(text, true, b',', attribute, value),
+        KeptAttribute::OnlyToCustomer => put_value(text, false, b',', attribute, value),
+        _ => {
+            put(text, Byte(b'['));
+            put_value(text, true, b',', attribute, value);
+            put(text, Byte(b']'));
+        }
+    }
+}
+
+/// Adds a bar and the column of an attribute.
+fn put_column<T: Text>(text: &mut T, kept: &KeptValues<'_>, attribute: KeptAttribute)
+    ensures { Adds (T.state text.old) (T.state text.new) (cells_behind Text (kept_cell kept.now attribute ∷ [])) }
+{
+    put(text, Byte(b'|'));
+    match kept.value(attribute) {
+        Some(value) => put_value(text, false, b' ', attribute, value),
+        None => put(text, Byte(b'-')),
+    }
+}
+
+/// Adds a comma and the member of an attribute.
+fn put_kept_member<T: Text>(text: &mut T, kept: &KeptValues<'_>, attribute: KeptAttribute)
+    ensures { Adds (T.state text.old) (T.state text.new) (cells_behind Json (kept_cell kept.now attribute ∷ [])) }
+{
+    text.put_text(b",\"");
+    text.put_text(attribute_name(attribute).as_bytes());
+    text.put_text(b"\":");
+    match kept.value(attribute) {
+        Some(value) => put_json_value(text, attribute, value),
+        None => text.put_text(b"null"),
+    }
+}
+
+/// Adds the column of an attribute, if it is asked for.
+fn put_if_asked<T: Text>(
     text: &mut T,
+    format: Format,
     asked: AttributeSet,
     kept: &KeptValues<'_>,
     attribute: KeptAttribute,
 )
     ensures { Adds (T.state text.old) (T.state text.new)
-        (barred (kept_column asked kept.now attribute)) }
+        (cells_behind format (cell_if_asked asked kept.now attribute)) }
 {
     if !asked.has(attribute) {
         return;
     }
-    put(text, Byte(b'|'));
-    match kept.value(attribute) {
-        Some(value) => put_value(text, attribute, value),
-        None => put(text, Byte(b'-')),
+    match format {
+        Format::Text => put_column(text, kept, attribute),
+        Format::Json => put_kept_member(text, kept, attribute),
     }
 }
 
-/// Adds the columns of those of these attributes that are asked for, each behind a bar.
+/// Adds the columns of those of these attributes that are asked for.
 fn put_each_column<T: Text>(
     text: &mut T,
+    format: Format,
     asked: AttributeSet,
     kept: &KeptValues<'_>,
     attributes: &[KeptAttribute],
 )
     ensures { Adds (T.state text.old) (T.state text.new)
-        (flat_map (λ a. barred (kept_column asked kept.now a)) attributes.now) }
+        (flat_map (λ a. cells_behind format (cell_if_asked asked kept.now a)) attributes.now) }
 {
     for attribute in attributes {
-        put_column(text, asked, kept, *attribute);
+        put_if_asked(text, format, asked, kept, *attribute);
     }
 }
 
-/// Adds the columns of the attributes that are asked for, each behind a bar.
-fn put_columns<T: Text>(text: &mut T, asked: AttributeSet, kept: &KeptValues<'_>)
-    ensures { Adds (T.state text.old) (T.state text.new) (barred (kept_columns asked kept.now)) }
+/// Adds the columns of the attributes that are asked for.
+fn put_columns<T: Text>(text: &mut T, format: Format, asked: AttributeSet, kept: &KeptValues<'_>)
+    ensures { Adds (T.state text.old) (T.state text.new) (cells_behind format (kept_cells asked kept.now)) }
 {
-    put_each_column(text, asked, kept, &KeptAttribute::ALL);
+    put_each_column(text, format, asked, kept, &KeptAttribute::ALL);
 }
 
 /// Adds what a line has after the fields that each route has: the columns of the attributes that are asked for, and the
 /// end of the line.
-pub(crate) fn put_line_end<T: Text>(text: &mut T, asked: AttributeSet, kept: &KeptValues<'_>)
-    ensures { Adds (T.state text.old) (T.state text.new) (line_end asked kept.now) }
+pub(crate) fn put_line_end<T: Text>(
+    text: &mut T,
+    format: Format,
+    asked: AttributeSet,
+    kept: &KeptValues<'_>,
+)
+    ensures { Adds (T.state text.old) (T.state text.new) (line_end format asked kept.now) }
 {
-    put_columns(text, asked, kept);
-    put(text, Byte(b'\n'));
+    put_columns(text, format, asked, kept);
+    match format {
+        Format::Text => put(text, Byte(b'\n')),
+        Format::Json => text.put_text(b"}\n"),
+    }
 }
 
 /// The same of a route.
 #[cold]
-pub(crate) fn put_route_end<T: Text>(text: &mut T, asked: AttributeSet, route: &RouteRef<'_>)
-    ensures { Adds (T.state text.old) (T.state text.new) (line_end asked route.now.kept) }
+pub(crate) fn put_route_end<T: Text>(
+    text: &mut T,
+    format: Format,
+    asked: AttributeSet,
+    route: &RouteRef<'_>,
+)
+    ensures { Adds (T.state text.old) (T.state text.new) (line_end format asked route.now.kept) }
 {
     match route.kept() {
-        Some(kept) => put_line_end(text, asked, &kept),
-        None => put_line_end(text, asked, &KeptValues::none()),
+        Some(kept) => put_line_end(text, format, asked, &kept),
+        None => put_line_end(text, format, asked, &KeptValues::none()),
     }
 }

@@ -1,7 +1,7 @@
 //! The laws of reports: they are those of the units and refusals that tables stand for, and what their rows say, stated
 //! without an order of work. Nothing is computed.
 
-ghost use Rattle.std.specs.Prelude.{◌≡◌, List, ◌≤◌, ◌+◌, ◌↔◌, ℕ, Bool, IsTrue, Option, Some, length, map};
+ghost use Rattle.std.specs.Prelude.{◌≡◌, List, ◌≤◌, ◌+◌, ◌↔◌, ℕ, Bool, IsTrue, Option, Some, decimal, length, map};
 ghost use Rattle.peer_units.specs.States.{AreByRule};
 ghost use Rattle.peer_units.specs.declared.state_rule.StateRule.TheVariants.{Recorded};
 ghost use Rattle.peer_units.specs.declared.unit.Damage.{Damage as ListedFault, Damage};
@@ -13,9 +13,12 @@ ghost use Rattle.peer_tables.specs.Tables.{TablesState, all_faults};
 ghost use Rattle.peer_tables.specs.Standing.{AreTablesOf};
 ghost use Rattle.rib_report.specs.UnitReports.{HasReportsOf, HaveSameTexts, peer_at};
 ghost use Rattle.std.specs.FinMap.{find, is_sorted};
-ghost use Rattle.std.specs.List.{count_by, filter};
+ghost use Rattle.std.specs.List.{AllByRecursion, count_by, filter};
 ghost use Rattle.std.specs.List.Sorted.{IsSortedByKey, IsStableByKey};
 ghost use Rattle.bgp_prefix.specs.Prefixes.{IpPrefix, prefix_cmp};
+ghost use Rattle.report_request.specs.declared.column.Key.{Key as AnyKey};
+ghost use Rattle.rib_report.specs.Cells.{quoted};
+ghost use Rattle.rib_report.specs.JsonValues.{HasNoQuote, IsValue, object_line};
 ghost use Rattle.rib_report.specs.Rows.{visibility_pair, origins_pair, seen_pair};
 ghost use Rattle.rib_report.specs.Reports.{place_cmp, visibility_of, visibility_rows, origins_of, origin_rows, fault_rows, prefix_origin_cmp, seen_of, seen_rows, origins_seen, share_of, rest_of, route_rows, match_rows, churn_rows, peer_rows};
 
@@ -107,4 +110,14 @@ pub fn faults_stand_by_place()
     ensures sorted { (tables : TablesState) → IsSortedByKey (λ d. d.place) place_cmp (fault_rows tables) }
     ensures stable { (tables : TablesState) →
         IsStableByKey (λ d. d.place) place_cmp (all_faults tables) (fault_rows tables) }
+{}
+
+/// Two lines in JSON with the same keys are the same where all their values are. A value is one that ends where it ends,
+/// whatever follows: a number, a text without a quote in quotes.
+pub fn json_lines_spell_their_fields()
+    ensures lines { (fields others : List (AnyKey × List ℕ)) → map (λ f. f.0) fields ≡ map (λ f. f.0) others →
+        AllByRecursion (λ f. IsValue f.1) fields → AllByRecursion (λ f. IsValue f.1) others →
+        object_line fields ≡ object_line others → fields ≡ others }
+    ensures numbers { (n : ℕ) → IsValue (decimal n) }
+    ensures texts { (text : List ℕ) → HasNoQuote text → IsValue (quoted text) }
 {}

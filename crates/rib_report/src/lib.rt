@@ -33,7 +33,9 @@
 #![tactic(auto)]
 
 mod buffer;
+mod cells;
 mod field;
+mod json_line;
 mod kept_columns;
 mod laws;
 mod line;
@@ -50,14 +52,15 @@ pub use ip_text::{
 };
 pub use laws::{
     counts_are_sums_over_shares, faults_of_shares, faults_stand_by_place,
-    origins_are_of_all_routes, origins_are_of_seen_rows, recorded_peers_are_shown_as_they_are,
-    reports_are_of_units, rows_of_shares, seen_counts_peers, visibility_counts_peers,
+    json_lines_spell_their_fields, origins_are_of_all_routes, origins_are_of_seen_rows,
+    recorded_peers_are_shown_as_they_are, reports_are_of_units, rows_of_shares, seen_counts_peers,
+    visibility_counts_peers,
 };
 pub use peer_tables::{
     By, Gathered, HistoryRows, Listed, Listing, Seated, Tables, collect, collected_stand_for_units,
     lanes_make_no_difference, tables_are_of_units,
 };
-pub use report_request::{Layout, LayoutOf};
+pub use report_request::{Format, Layout, LayoutOf};
 pub use reports::churn::{ChurnRow, churn, watched_churn, write_churn};
 pub use reports::faults::{faults, write_faults};
 pub use reports::history::write_history;

@@ -4,17 +4,20 @@ ghost use Rattle.std.specs.Prelude.{◌≡◌, ◌≤◌, ◌+◌, ◌<◌, [], 
 ghost use Rattle.rib_report.specs.Texts.{Adds};
 ghost use Rattle.ip_text.specs.Formats.{Formats};
 ghost use Rattle.rib_report.specs.Fields.{field, numbers_text};
-ghost use Rattle.rib_report.specs.Lines.{kind_text, path_text, route_line};
+ghost use Rattle.report_request.specs.declared.format.Format.TheVariants.{Text};
+ghost use Rattle.rib_report.specs.Cells.{line_by};
+ghost use Rattle.rib_report.specs.Lines.{kind_text, path_text, route_line, row_cells};
 ghost use Rattle.rib_report.specs.LineParts.{attribute_fields, line_beginning, line_end};
 
 use crate::buffer::{put, put_attributes, put_peer_and_key};
 use crate::field::{Atomic, Byte, Field, PeerText, ShownKey, format_next_hop};
+use crate::json_line::put_json_row;
 use crate::numbers::put_segment_numbers;
 use crate::text::Text;
 use bgp_prefix::{Prefix, RouteKey};
 use bgp_update::{PackedSegment, PackedSegments, RouteRef, SegmentKind, Unicast};
 use ip_text::{DecimalTable, WrittenAddress, format_byte};
-use report_request::LayoutOf;
+use report_request::{Format, LayoutOf};
 
 /// Returns the most bytes of what a line begins with, and one more.
 #[inline(always)]
@@ -115,16 +118,16 @@ fn put_later_segment<T: Text>(text: &mut T, segment: &PackedSegment<'_>)
     put_segment(text, b' ', segment);
 }
 
-/// Adds a bar and the segments of a path. Most paths have one.
+/// Adds a byte and the segments of a path. Most paths have one.
 #[inline(always)]
-fn put_segments<T: Text>(text: &mut T, path: PackedSegments<'_>)
-    ensures { Adds (T.state text.old) (T.state text.new) (124 ∷ path_text path.entry) }
+pub(crate) fn put_segments<T: Text>(text: &mut T, before: u8, path: PackedSegments<'_>)
+    ensures { Adds (T.state text.old) (T.state text.new) (before ∷ path_text path.entry) }
 {
     let mut rest = path;
     let Some(first) = rest.next() else {
-        return text.put_text(b"|");
+        return put(text, Byte(before));
     };
-    put_segment(text, b'|', &first);
+    put_segment(text, before, &first);
     while let Some(segment) = rest.next() {
         put_later_segment(text, &segment);
     }
@@ -136,23 +139,39 @@ fn put_path<T: Text>(text: &mut T, path: Option<PackedSegments<'_>>)
     ensures { Adds (T.state text.old) (T.state text.new) (124 ∷ field path_text path.entry) }
 {
     match path {
-        Some(path) => put_segments(text, path),
+        Some(path) => put_segments(text, b'|', path),
         None => text.put_text(b"|-"),
     }
 }
 
 /// Adds what a line has after the key: the fields of a route, each behind a bar, and the end of the line.
-pub(crate) fn put_route<T: Text, F: Unicast>(
+pub(crate) fn put_text_route<T: Text, F: Unicast>(
     text: &mut T,
     layout: LayoutOf<F>,
     route: &RouteRef<'_>,
 )
     ensures { Adds (T.state text.old) (T.state text.new)
         ((124 ∷ field path_text route.now.path)
-        ++ (attribute_fields layout route.now ++ line_end layout.attributes route.now.kept)) }
+        ++ (attribute_fields layout route.now ++ line_end Text layout.attributes route.now.kept)) }
 {
     put_path(text, route.path());
     put_attributes(text, layout, route);
+}
+
+/// Adds the line of a route as text.
+#[inline(always)]
+fn put_text_row<T: Text, F: WrittenAddress>(
+    text: &mut T,
+    peer: &PeerText<F>,
+    key: &RouteKey<Prefix<F>>,
+    route: &RouteRef<'_>,
+)
+    ensures { Adds (T.state text.old) (T.state text.new) (line_by Text
+        (row_cells peer.now.layout (record { peer = peer.now.key; key = key.now; route = route.now }))) }
+{
+    put_peer_and_key(text, peer, key);
+    put_path(text, route.path());
+    put_attributes(text, peer.layout(), route);
 }
 
 /// Adds the line of a route.
@@ -165,7 +184,8 @@ pub(crate) fn put_row<T: Text, F: WrittenAddress>(
     ensures { Adds (T.state text.old) (T.state text.new)
         (route_line peer.now.layout (record { peer = peer.now.key; key = key.now; route = route.now })) }
 {
-    put_peer_and_key(text, peer, key);
-    put_path(text, route.path());
-    put_attributes(text, peer.layout(), route);
+    match peer.layout().format {
+        Format::Text => put_text_row(text, peer, key, route),
+        Format::Json => put_json_row(text, peer, key, route),
+    }
 }

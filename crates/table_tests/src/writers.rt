@@ -113,7 +113,7 @@ fn write_report<M: PrefixMap<RouteId, Addr = u32> + Sync, T: Threads + Sync, W: 
         Report::Churn => write_churn(out, layout, churn(alloc, tables)?.as_slice()),
         Report::Peers => write_peers(out, layout, peers(alloc, tables)?.as_slice()),
         Report::Match => write_rows(out, layout, matches(alloc, tables, 0)?.as_slice()),
-        Report::Faults => write_faults(out, faults(alloc, tables)?.as_slice()),
+        Report::Faults => write_faults(out, layout, faults(alloc, tables)?.as_slice()),
     }
 }
 

@@ -9,8 +9,8 @@ ghost use Rattle.rib_report.specs.Fields.{field, time_text};
 ghost use Rattle.rib_report.specs.Lines.{churn_line};
 ghost use Rattle.rib_report.specs.Texts.{IsOutput};
 
-use crate::buffer::put;
-use crate::field::{Byte, Joined, ShownPeer, time_field};
+use crate::cells::{columns, if_any, number, put_line};
+use crate::field::time_field;
 use crate::line::Line;
 use crate::text::Text;
 use crate::write::write_lines;
@@ -20,7 +20,7 @@ use bgp_update::Unicast;
 use mrt_frame::{ReplayError, Sink};
 use peer_tables::{Tables, Watched};
 use peer_units::PeerKey;
-use report_request::LayoutOf;
+use report_request::{Key, LayoutOf};
 use std::alloc::Global;
 
 /// What a peer's units did.
@@ -69,24 +69,20 @@ impl<F: Unicast> Line<F> for ChurnRow {
 
     fn put<T: Text>(&self, text: &mut T, layout: &LayoutOf<F>) {
         let churn = self.churn;
-        let times = (time_field(churn.first), time_field(churn.last));
-        let refused = (churn.refused as u128, times);
-        let changes = (
-            churn.gone as u128,
-            (
-                churn.void as u128,
-                (churn.resets as u128, (churn.idle as u128, refused)),
-            ),
+        let cells = columns!(
+            peer(layout, self.peer),
+            number!(Key::New, churn.added),
+            number!(Key::Changed, churn.changed),
+            number!(Key::Same, churn.same),
+            number!(Key::Gone, churn.gone),
+            number!(Key::Void, churn.void),
+            number!(Key::Resets, churn.resets),
+            number!(Key::Idle, churn.idle),
+            number!(Key::Refused, churn.refused),
+            if_any!(Key::First, time_field(churn.first)),
+            if_any!(Key::Last, time_field(churn.last))
         );
-        let counts = (
-            churn.added as u128,
-            (churn.changed as u128, (churn.same as u128, changes)),
-        );
-        let peer = ShownPeer {
-            key: self.peer,
-            layout: *layout,
-        };
-        put(text, Joined((peer, counts), Byte(b'\n')));
+        put_line(text, layout.format, cells);
     }
 }
 

@@ -10,7 +10,7 @@ ghost use Rattle.rib_report.specs.Fields.{field};
 ghost use Rattle.rib_report.specs.Lines.{fault_line};
 ghost use Rattle.rib_report.specs.Texts.{IsOutput};
 
-use crate::buffer::put;
+use crate::cells::{columns, if_any, number, plain, put_line, word};
 use crate::field::{Byte, Field, Joined, entry_field};
 use crate::line::Line;
 use crate::text::Text;
@@ -18,11 +18,11 @@ use crate::write::write_lines;
 use adj_rib::RouteId;
 use bgp_prefix::{Memory, PrefixMap};
 use bgp_update::Unicast;
-use ip_text::{AddressForm, DecimalTable, format_text};
+use ip_text::{DecimalTable, format_text};
 use mrt_frame::{Fault, ReplayError, Sink};
 use peer_tables::Tables;
 use peer_units::Damage;
-use report_request::{Layout, LayoutOf};
+use report_request::{Key, LayoutOf};
 use std::alloc::Global;
 
 /// The refusals, and then each peer's faults.
@@ -72,23 +72,28 @@ impl Field for Fault {
 }
 
 impl<F: Unicast> Line<F> for Damage {
-    ghost line = { λ _. fault_line };
+    ghost line = { fault_line };
 
-    fn put<T: Text>(&self, text: &mut T, _layout: &LayoutOf<F>) {
-        let file = self.place.file as u128 + 1;
-        let offset = self.place.offset as u128;
-        let number = self.fault.number() as u32;
-        let entry = entry_field(self.place.entry);
-        let fields = (file, (offset, (entry, (number, self.fault))));
-        put(text, Joined(fields, Byte(b'\n')));
+    fn put<T: Text>(&self, text: &mut T, layout: &LayoutOf<F>) {
+        let cells = columns!(
+            number!(Key::File, self.place.file as u128 + 1),
+            number!(Key::Offset, self.place.offset),
+            if_any!(Key::Entry, entry_field(self.place.entry)),
+            plain!(Key::Number, self.fault.number() as u32),
+            word!(Key::Fault, self.fault)
+        );
+        put_line(text, layout.format, cells);
     }
 }
 
 /// Writes the rows of `faults`. If it returns `Write`, a leading part of the text has been written.
-pub fn write_faults<W: Sink>(out: &mut W, rows: &[Damage]) -> Result<(), ReplayError>
+pub fn write_faults<F: Unicast, W: Sink>(
+    out: &mut W,
+    layout: LayoutOf<F>,
+    rows: &[Damage],
+) -> Result<(), ReplayError>
     ensures { IsOutput (W.contents out.old) (W.failure_count out.old) (W.contents out.new) (W.failure_count out.new)
-        (flat_map fault_line rows.now) result }
+        (flat_map (fault_line layout) rows.now) result }
 {
-    let layout: Layout = Layout::all(AddressForm::Full);
     write_lines(out, &layout, rows)
 }

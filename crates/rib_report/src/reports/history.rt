@@ -1,26 +1,31 @@
 //! The report `history`: what happened to each key, in the order in which it did. A line holds the time, the peer, what
 //! happened, what brought it about, the key and its route.
 
-ghost use Rattle.std.specs.Prelude.{◌≡◌, ◌∷◌, ◌++◌, codes};
+ghost use Rattle.std.specs.Prelude.{◌≡◌, codes};
 ghost use Rattle.std.specs.List.{flat_map};
 ghost use Rattle.peer_tables.specs.Histories.{RowState, row_state};
-ghost use Rattle.rib_report.specs.HistoryLines.{by_text, history_line, what_text};
-ghost use Rattle.rib_report.specs.Texts.{IsOutput};
+ghost use Rattle.rib_report.specs.HistoryLines.{by_text, event_cells, history_line, what_text};
+ghost use Rattle.rib_report.specs.LineParts.{line_front};
+ghost use Rattle.report_request.specs.declared.format.Format.TheVariants.{Text, Json};
+ghost use Rattle.rib_report.specs.HistoryParts.{listed_behind};
+ghost use Rattle.rib_report.specs.Texts.{Adds, IsOutput};
 
 use crate::buffer::put;
-use crate::field::{Field, Microseconds, ShownKey, ShownPeer};
+use crate::cells::{Comma, Quoted, ShownAddr, key_members, plain};
+use crate::field::{Byte, Field, Joined, Microseconds, ShownKey, ShownPeer};
+use crate::json_line::{put_json_route, put_no_route};
 use crate::kept_columns::put_line_end;
 use crate::line::{Line, RowList};
-use crate::route_line::put_route;
+use crate::route_line::put_text_route;
 use crate::text::Text;
 use crate::write::write_lines;
 use adj_rib::What;
 use bgp_prefix::Prefix;
-use bgp_update::KeptValues;
+use bgp_update::{KeptValues, RouteRef, Unicast};
 use ip_text::{DecimalTable, WrittenAddress, format_text};
 use mrt_frame::{ReplayError, Sink};
 use peer_tables::{By, HistoryRow, HistoryRows};
-use report_request::LayoutOf;
+use report_request::{Format, Key, LayoutOf};
 
 impl Field for What {
     ghost text_of = { what_text };
@@ -61,6 +66,86 @@ impl Field for By {
     }
 }
 
+/// Adds the fields of a route, or `-` in each, and the end of the line.
+fn put_text_listed<T: Text, F: Unicast>(
+    text: &mut T,
+    layout: LayoutOf<F>,
+    route: &Option<RouteRef<'_>>,
+)
+    ensures { Adds (T.state text.old) (T.state text.new) (listed_behind Text layout route.now) }
+{
+    match route {
+        Some(route) => put_text_route(text, layout, route),
+        None => {
+            text.put_text(b"|-|-|-|-|-|-|-");
+            put_line_end(text, Format::Text, layout.attributes, &KeptValues::none());
+        }
+    }
+}
+
+/// Adds the members of a route, or `null` in each, and the end of the line.
+fn put_json_listed<T: Text, F: Unicast>(
+    text: &mut T,
+    layout: LayoutOf<F>,
+    route: &Option<RouteRef<'_>>,
+)
+    ensures { Adds (T.state text.old) (T.state text.new) (listed_behind Json layout route.now) }
+{
+    match route {
+        Some(route) => put_json_route(text, layout, route),
+        None => put_no_route(text, layout),
+    }
+}
+
+/// Adds the fields before those of the route.
+fn put_text_event<T: Text, F: WrittenAddress>(
+    text: &mut T,
+    layout: &LayoutOf<F>,
+    row: &HistoryRow<'_, Prefix<F>>,
+)
+    ensures { Adds (T.state text.old) (T.state text.new) (line_front Text (event_cells layout.now (row_state row.now))) }
+{
+    let key = ShownKey {
+        key: row.key,
+        layout: *layout,
+    };
+    let event = (row.what, (row.by, key));
+    let peer = ShownPeer {
+        key: row.peer,
+        layout: *layout,
+    };
+    put(text, (Microseconds(row.time), (peer, event)));
+}
+
+/// Adds an opening brace and the members before those of the route.
+fn put_json_event<T: Text, F: WrittenAddress>(
+    text: &mut T,
+    layout: &LayoutOf<F>,
+    row: &HistoryRow<'_, Prefix<F>>,
+)
+    ensures { Adds (T.state text.old) (T.state text.new) (line_front Json (event_cells layout.now (row_state row.now))) }
+{
+    let addr = ShownAddr {
+        addr: row.peer.addr,
+        form: layout.peer_addresses,
+    };
+    let behind = Comma(
+        plain!(Key::PeerIp, Quoted(addr)).json,
+        Comma(
+            plain!(Key::What, Quoted(row.what)).json,
+            Comma(
+                plain!(Key::By, Quoted(row.by)).json,
+                key_members(layout, &row.key),
+            ),
+        ),
+    );
+    let members = Comma(
+        plain!(Key::Timestamp, Microseconds(row.time)).json,
+        Comma(plain!(Key::PeerAsn, row.peer.asn).json, behind),
+    );
+    put(text, Joined(Byte(b'{'), members));
+}
+
 impl<F: WrittenAddress> Line<F> for HistoryRow<'_, Prefix<F>> {
     ghost line = { λ layout row. history_line layout (row_state row) };
 
@@ -72,21 +157,14 @@ impl<F: WrittenAddress> Line<F> for HistoryRow<'_, Prefix<F>> {
     }
 
     fn put<T: Text>(&self, text: &mut T, layout: &LayoutOf<F>) {
-        let key = ShownKey {
-            key: self.key,
-            layout: *layout,
-        };
-        let event = (self.what, (self.by, key));
-        let peer = ShownPeer {
-            key: self.peer,
-            layout: *layout,
-        };
-        put(text, (Microseconds(self.time), (peer, event)));
-        match &self.route {
-            Some(route) => put_route(text, *layout, route),
-            None => {
-                text.put_text(b"|-|-|-|-|-|-|-");
-                put_line_end(text, layout.attributes, &KeptValues::none());
+        match layout.format {
+            Format::Text => {
+                put_text_event(text, layout, self);
+                put_text_listed(text, *layout, &self.route);
+            }
+            Format::Json => {
+                put_json_event(text, layout, self);
+                put_json_listed(text, *layout, &self.route);
             }
         }
     }

@@ -10,7 +10,8 @@ ghost use Rattle.rib_report.specs.Texts.{IsOutput};
 ghost use Rattle.peer_tables.specs.Seats.{seat_of};
 
 use crate::buffer::put;
-use crate::field::{Byte, ShownPrefix};
+use crate::cells::prefix;
+use crate::field::{Byte, Joined};
 use crate::line::Line;
 use crate::merge::{Listed, Mergeable, list_peers};
 use crate::numbers::put_numbers;
@@ -22,7 +23,7 @@ use bgp_update::{RouteRef, Unicast};
 use ip_text::WrittenAddress;
 use mrt_frame::{ReplayError, Sink};
 use peer_tables::{Seated, Tables};
-use report_request::LayoutOf;
+use report_request::{Format, LayoutOf};
 use std::alloc::Global;
 use std::cmp::Ordering;
 use std::marker::{Send, Sync};
@@ -39,14 +40,20 @@ impl<F: WrittenAddress> Line<F> for OriginRow<Prefix<F>> {
     ghost line = { origin_line };
 
     fn put<T: Text>(&self, text: &mut T, layout: &LayoutOf<F>) {
-        let prefix = ShownPrefix {
-            prefix: self.prefix,
-            layout: *layout,
-        };
-        put(text, prefix);
-        put(text, Byte(b'|'));
-        put_numbers(text, b' ', self.origins.as_slice());
-        put(text, Byte(b'\n'));
+        let prefix = prefix!(layout, self.prefix);
+        match layout.format {
+            Format::Text => {
+                put(text, Joined(prefix.text, Byte(b'|')));
+                put_numbers(text, b' ', self.origins.as_slice());
+                put(text, Byte(b'\n'));
+            }
+            Format::Json => {
+                put(text, Joined(Byte(b'{'), prefix.json));
+                text.put_text(b",\"origin_asns\":[");
+                put_numbers(text, b',', self.origins.as_slice());
+                text.put_text(b"]}\n");
+            }
+        }
     }
 }
 

@@ -10,8 +10,8 @@ ghost use Rattle.rib_report.specs.Fields.{field, time_text};
 ghost use Rattle.rib_report.specs.Lines.{entry_of, file_of, offset_of, peer_line, state_text};
 ghost use Rattle.rib_report.specs.Texts.{IsOutput};
 
-use crate::buffer::put;
-use crate::field::{Byte, Joined, SessionUp, ShownPeer, entry_field, time_field};
+use crate::cells::{columns, if_any, number, put_line, word};
+use crate::field::{SessionUp, entry_field, time_field};
 use crate::line::Line;
 use crate::text::Text;
 use crate::write::write_lines;
@@ -21,7 +21,7 @@ use bgp_update::Unicast;
 use mrt_frame::{ReplayError, Sink};
 use peer_tables::{Seated, Tables};
 use peer_units::{PeerKey, Place};
-use report_request::LayoutOf;
+use report_request::{Key, LayoutOf};
 use std::alloc::Global;
 
 /// A peer as its units leave it.
@@ -98,18 +98,18 @@ impl<F: Unicast> Line<F> for PeerRow {
     ghost line = { peer_line };
 
     fn put<T: Text>(&self, text: &mut T, layout: &LayoutOf<F>) {
-        let place = (
-            file_field(self.place),
-            (offset_field(self.place), place_entry_field(self.place)),
+        let cells = columns!(
+            peer(layout, self.peer),
+            word!(Key::State, SessionUp(self.is_established)),
+            number!(Key::Routes, self.routes),
+            number!(Key::Units, self.units),
+            if_any!(Key::First, time_field(self.first)),
+            if_any!(Key::Last, time_field(self.last)),
+            if_any!(Key::File, file_field(self.place)),
+            if_any!(Key::Offset, offset_field(self.place)),
+            if_any!(Key::Entry, place_entry_field(self.place))
         );
-        let times = (time_field(self.first), (time_field(self.last), place));
-        let counts = (self.routes as u128, (self.units as u128, times));
-        let peer = ShownPeer {
-            key: self.peer,
-            layout: *layout,
-        };
-        let fields = (peer, (SessionUp(self.is_established), counts));
-        put(text, Joined(fields, Byte(b'\n')));
+        put_line(text, layout.format, cells);
     }
 }
 

@@ -11,8 +11,7 @@ ghost use Rattle.rib_report.specs.Lines.{seen_line};
 ghost use Rattle.rib_report.specs.Texts.{IsOutput};
 ghost use Rattle.peer_tables.specs.Seats.{seat_of};
 
-use crate::buffer::put;
-use crate::field::{Byte, Joined, ShownPrefix};
+use crate::cells::{columns, if_any, number, prefix, put_line};
 use crate::line::Line;
 use crate::merge::{Listed, Mergeable, list_peers};
 use crate::text::Text;
@@ -23,7 +22,7 @@ use bgp_update::Unicast;
 use ip_text::WrittenAddress;
 use mrt_frame::{ReplayError, Sink};
 use peer_tables::{Seated, Tables};
-use report_request::LayoutOf;
+use report_request::{Key, LayoutOf};
 use std::alloc::Global;
 use std::cmp::Ordering;
 use std::marker::{Send, Sync};
@@ -41,12 +40,12 @@ impl<F: WrittenAddress> Line<F> for SeenRow<Prefix<F>> {
     ghost line = { seen_line };
 
     fn put<T: Text>(&self, text: &mut T, layout: &LayoutOf<F>) {
-        let prefix = ShownPrefix {
-            prefix: self.prefix,
-            layout: *layout,
-        };
-        let fields = (prefix, (self.origin, self.peers as u128));
-        put(text, Joined(fields, Byte(b'\n')));
+        let cells = columns!(
+            prefix!(layout, self.prefix),
+            if_any!(Key::OriginAsn, self.origin),
+            number!(Key::Peers, self.peers)
+        );
+        put_line(text, layout.format, cells);
     }
 }
 

@@ -11,8 +11,7 @@ ghost use Rattle.rib_report.specs.Reports.{visible_among, visibility_rows};
 ghost use Rattle.rib_report.specs.Lines.{visibility_line};
 ghost use Rattle.rib_report.specs.Texts.{IsOutput};
 
-use crate::buffer::put;
-use crate::field::{Byte, Joined, ShownPrefix};
+use crate::cells::{columns, number, prefix, put_line};
 use crate::line::Line;
 use crate::merge::{Listed, Mergeable, list_peers};
 use crate::text::Text;
@@ -23,7 +22,7 @@ use bgp_update::Unicast;
 use ip_text::WrittenAddress;
 use mrt_frame::{ReplayError, Sink};
 use peer_tables::{Seated, Tables};
-use report_request::LayoutOf;
+use report_request::{Key, LayoutOf};
 use std::alloc::Global;
 use std::cmp::Ordering;
 use std::marker::{Send, Sync};
@@ -40,11 +39,11 @@ impl<F: WrittenAddress> Line<F> for VisibilityRow<Prefix<F>> {
     ghost line = { visibility_line };
 
     fn put<T: Text>(&self, text: &mut T, layout: &LayoutOf<F>) {
-        let prefix = ShownPrefix {
-            prefix: self.prefix,
-            layout: *layout,
-        };
-        put(text, Joined((prefix, self.peers as u128), Byte(b'\n')));
+        let cells = columns!(
+            prefix!(layout, self.prefix),
+            number!(Key::Peers, self.peers)
+        );
+        put_line(text, layout.format, cells);
     }
 }
 

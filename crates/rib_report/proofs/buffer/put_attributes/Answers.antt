@@ -1,5 +1,6 @@
 use Rattle.std.proofs.Common.{◌++◌, ◌∙◌, sym, ap, rules}
 use Rattle.ip_text.proofs.FormatLaws.{Formats_trans}
+use Rattle.report_request.specs.declared.format.Format.TheVariants.{Text}
 use Rattle.rib_report.specs.LineParts.{attribute_fields}
 use Rattle.rib_report.proofs.TextLaws.{Adds_as, Adds_formatted, Adds_trans}
 use Rattle.rib_report.proofs.KeptColumns.{no_columns}
@@ -9,7 +10,7 @@ pub returns-then-is_empty : goal.returns-then-is_empty
 returns-then-is_empty g c =
     let layout = c.args.layout in
     let route = c.args.route.now in
-    Adds_as (ap (λ l. attribute_fields layout route ++ l) (sym (no_columns layout.attributes route.kept (sym c.is_empty.ensures ∙ c.if-is_empty.true))))
+    Adds_as (ap (λ l. attribute_fields layout route ++ l) (sym (no_columns Text layout.attributes route.kept (sym c.is_empty.ensures ∙ c.if-is_empty.true))))
     (Adds_formatted c.make_room.ensures.adds (Formats_trans c.format_attributes-at.ensures c.format_byte-buffer-inside.ensures) (search rules) (search rules))
 
 pub returns-else-is_empty : goal.returns-else-is_empty

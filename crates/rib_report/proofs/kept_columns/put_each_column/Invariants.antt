@@ -2,11 +2,11 @@
 use Rattle.std.proofs.Common.{take}
 use Rattle.std.specs.List.{flat_map}
 use Rattle.rib_report.specs.Texts.{Adds}
-use Rattle.rib_report.specs.KeptTexts.{kept_column}
-use Rattle.rib_report.specs.LineParts.{barred}
+use Rattle.rib_report.specs.KeptTexts.{cell_if_asked}
+use Rattle.rib_report.specs.LineParts.{cells_behind}
 use Rattle.rib_report.proofs.kept_columns.put_each_column.Given as goal
 
 abbrev pub invariant-loop-attribute : goal.invariant-loop-attribute
 invariant-loop-attribute g l =
     Adds (g.T.Text.state l.initial.text) (g.T.Text.state l.text)
-    (flat_map (λ a. barred (kept_column l.asked l.kept a)) (take l.attribute-index l.attributes))
+    (flat_map (λ a. cells_behind l.format (cell_if_asked l.asked l.kept a)) (take l.attribute-index l.attributes))

@@ -17,10 +17,10 @@ loop-segment-preserved g c = λ end later.
     c.loop-segment.invariant end (Adds_as (ap (flat_map behind) (sym c.in-Some-next.ensures)) (Adds_trans c.put_later_segment.ensures later))
 
 pub returns-in_default : goal.returns-in_default
-returns-in_default g c = Adds_as (ap (λ p. 124 ∷ path_text p) (sym c.in_default.ensures)) c.put_text.ensures
+returns-in_default g c = Adds_as (ap (λ p. c.args.before ∷ path_text p) (sym c.in_default.ensures)) c.put.ensures
 
 pub returns : goal.returns
 returns g c =
     let none = Adds_as (ap (flat_map behind) (sym c.in_default-next.ensures)) Adds_none in
-    let whole = ap (λ l. 124 ∷ l) (sym (join-cons 32 text c.in-Some.first c.next.new.self) ∙ ap path_text (sym c.in-Some.ensures)) in
+    let whole = ap (λ l. c.args.before ∷ l) (sym (join-cons 32 text c.in-Some.first c.next.new.self) ∙ ap path_text (sym c.in-Some.ensures)) in
     Adds_as whole (Adds_trans c.put_segment.ensures (c.loop-segment.invariant _ none))

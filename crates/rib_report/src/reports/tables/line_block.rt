@@ -15,8 +15,8 @@ use bgp_prefix::{Prefix, RouteKey};
 use bgp_update::RouteRef;
 use ip_text::WrittenAddress;
 
-/// The most bytes of a line without the numbers of its path, and some more.
-const MOST_WITHOUT_PATH: usize = 320;
+/// The most bytes of a line in either format without the numbers of its path, and some more.
+const MOST_WITHOUT_PATH: usize = 640;
 
 /// Lines of successive entries.
 #[derive(Drop)]

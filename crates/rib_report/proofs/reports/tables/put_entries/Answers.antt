@@ -1,4 +1,8 @@
-use Rattle.std.proofs.Common.{arith}
+use Rattle.std.proofs.Common.{arith, ap}
+use Rattle.std.specs.List.{between}
+use Rattle.rib_report.specs.Plain.{ShownPeer}
+use Rattle.rib_report.specs.Listings.{reached_lines}
+use Rattle.rib_report.proofs.TextLaws.{Adds_as}
 use Rattle.rib_report.specs.Lines.{route_line}
 use Rattle.rib_report.specs.Reports.{entry_row}
 use Rattle.rib_report.proofs.JoinLaws.{Adds_range, Adds_items, Adds_failed}
@@ -11,7 +15,7 @@ pub loop-done-preserved : goal.loop-done-preserved
 loop-done-preserved g c = record {
   within = omega arith;
   goes_on = c.prefetch_entries-near.ensures;
-  written = Adds_range (λ e. route_line c.args.peer.now.layout (entry_row c.args.peer.now.key e)) c.args.entries.now c.loop-done.done c.min-end.result (omega arith) c.loop-done.invariant.written (rw c.peer_text-peer_text.ensures at c.put_block.ensures);
+  written = Adds_range (λ e. route_line c.args.peer.now.layout (entry_row c.args.peer.now.key e)) c.args.entries.now c.loop-done.done c.min-end.result (omega arith) c.loop-done.invariant.written (Adds_as (ap (λ (p : ShownPeer). reached_lines p (between c.loop-done.done c.min-end.result c.args.entries.now)) c.peer_text-peer_text.ensures) c.put_block.ensures);
 }
 
 pub returns : goal.returns

@@ -1,0 +1,27 @@
+-- Values that can be told apart from what stands behind them in an object.
+use Rattle.std.specs.Prelude.{◌≡◌, ℕ, ◌⊎◌, Bool, true, false, not, ◌||◌, ◌==◌, List, [], ◌∷◌, ◌++◌, if◌then◌else◌}
+use Rattle.std.specs.List.{join_with_byte, list_all}
+use Rattle.report_request.specs.declared.column.Key.{Key}
+use Rattle.rib_report.specs.Cells.{members}
+
+-- What stands before the first comma or closing brace that is in no text and in no list. The first argument tells
+-- whether this is within a text, and the second whether within a list.
+abbrev pub value_front : Bool → Bool → List ℕ → List ℕ
+value_front quotes brackets [] = []
+value_front true brackets (c ∷ rest) = c ∷ value_front (not (c == 34)) brackets rest
+value_front false true (c ∷ rest) = c ∷ value_front (c == 34) (not (c == 93)) rest
+value_front false false (c ∷ rest) =
+    if c == 44 || c == 125 then [] else c ∷ value_front (c == 34) (c == 91) rest
+
+-- it ends where it ends, whatever follows
+abbrev pub IsValue : List ℕ → Type 0
+IsValue value =
+    (c : ℕ) (rest : List ℕ) → (c ≡ 44) ⊎ (c ≡ 125) → value_front false false (value ++ c ∷ rest) ≡ value
+
+-- the line of an object
+abbrev pub object_line : List (Key × List ℕ) → List ℕ
+object_line fields = 123 ∷ join_with_byte 44 (members fields) ++ 125 ∷ 10 ∷ []
+
+-- it has no character that would end it where it stands in quotes
+abbrev pub HasNoQuote : List ℕ → Type 0
+HasNoQuote text = list_all (λ c. not (c == 34)) text ≡ true

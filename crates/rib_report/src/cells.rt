@@ -1,0 +1,391 @@
+//! The columns of a line, in both formats: a field of text, and members of JSON (RFC 8259).
+
+ghost use Rattle.std.specs.Prelude.{◌≡◌, ℕ, ◌+◌, ◌≤◌, ◌<◌, ◌++◌, [], ◌∷◌, List, decimal, length};
+ghost use Rattle.rib_report.specs.Cells.{line_as, member, or_null, quoted};
+ghost use Rattle.rib_report.specs.Lines.{addr_text, identifier, truth};
+ghost use Rattle.report_request.specs.declared.column.Key.TheVariants.{PathId, Prefix as PrefixKey};
+ghost use Rattle.rib_report.specs.Texts.{Adds};
+ghost use Rattle.ip_text.specs.Formats.{Formats};
+
+use crate::buffer::put;
+use crate::field::{Byte, Field, Joined, ShownPrefix, format_addr};
+use crate::text::Text;
+use bgp_prefix::{Prefix, RouteKey};
+use bgp_update::FamilyMark;
+use ip_text::{AddressForm, DecimalTable, WrittenAddress, format_byte, format_number, format_text};
+use peer_units::PeerAddr;
+use report_request::{Format, Key, LayoutOf};
+
+// ---- values
+
+/// A text in quotes.
+#[derive(Clone, Copy)]
+pub(crate) struct Quoted<A>(pub(crate) A);
+
+impl<A: Field> Field for Quoted<A> {
+    ghost text_of = { λ q. quoted (A.text_of q.0) };
+
+    ghost longest = { A.longest + 2 };
+
+    fn longest() -> usize {
+        A::longest().saturating_add(2)
+    }
+
+    #[inline(always)]
+    #[tactic(auto, using(ip_text::proofs::FormatLaws::Formats_trans))]
+    fn format(self, bytes: &mut [u8], at: usize, shorts: &DecimalTable) -> usize {
+        let at = format_byte(bytes, at, b'"');
+        let at = self.0.format(bytes, at, shorts);
+        format_byte(bytes, at, b'"')
+    }
+}
+
+/// `null` where there is none.
+#[derive(Clone, Copy)]
+pub(crate) struct OrNull<A>(pub(crate) Option<A>);
+
+impl<A: Field> Field for OrNull<A> {
+    ghost text_of = { λ o. or_null A.text_of o.0 };
+
+    ghost longest = { 4 + A.longest };
+
+    fn longest() -> usize {
+        A::longest().saturating_add(4)
+    }
+
+    #[inline(always)]
+    fn format(self, bytes: &mut [u8], at: usize, shorts: &DecimalTable) -> usize {
+        match self.0 {
+            Some(value) => value.format(bytes, at, shorts),
+            None => format_text(bytes, at, b"null"),
+        }
+    }
+}
+
+/// A text in quotes, or `null` where there is none.
+#[derive(Clone, Copy)]
+pub(crate) struct QuotedOrNull<A>(pub(crate) Option<A>);
+
+impl<A: Field> Field for QuotedOrNull<A> {
+    ghost text_of = { λ o. or_null (λ x. quoted (A.text_of x)) o.0 };
+
+    ghost longest = { 4 + A.longest };
+
+    fn longest() -> usize {
+        A::longest().saturating_add(4)
+    }
+
+    #[inline(always)]
+    fn format(self, bytes: &mut [u8], at: usize, shorts: &DecimalTable) -> usize {
+        match self.0 {
+            Some(value) => Quoted(value).format(bytes, at, shorts),
+            None => format_text(bytes, at, b"null"),
+        }
+    }
+}
+
+/// `true` or `false`.
+#[derive(Clone, Copy)]
+pub(crate) struct Truth(pub(crate) bool);
+
+impl Field for Truth {
+    ghost text_of = { λ t. truth t.0 };
+
+    ghost longest = { 5 };
+
+    fn longest() -> usize {
+        5
+    }
+
+    #[inline(always)]
+    fn format(self, bytes: &mut [u8], at: usize, _shorts: &DecimalTable) -> usize {
+        if self.0 {
+            format_text(bytes, at, b"true")
+        } else {
+            format_text(bytes, at, b"false")
+        }
+    }
+}
+
+/// The address of a peer.
+#[derive(Clone, Copy)]
+pub(crate) struct ShownAddr {
+    pub(crate) addr: PeerAddr,
+    pub(crate) form: AddressForm,
+}
+
+impl Field for ShownAddr {
+    ghost text_of = { λ a. addr_text a.form a.addr };
+
+    ghost longest = { 39 };
+
+    fn longest() -> usize {
+        39
+    }
+
+    fn format(self, bytes: &mut [u8], at: usize, shorts: &DecimalTable) -> usize {
+        format_addr(bytes, at, shorts, self.form, self.addr)
+    }
+}
+
+/// A path identifier, or `null` where it is 0.
+#[derive(Clone, Copy)]
+pub(crate) struct IdentifierOrNull(pub(crate) u32);
+
+impl Field for IdentifierOrNull {
+    ghost text_of = { λ i. or_null decimal (identifier i.0) };
+
+    ghost longest = { 12 };
+
+    fn longest() -> usize {
+        12
+    }
+
+    #[inline(always)]
+    fn format(self, bytes: &mut [u8], at: usize, shorts: &DecimalTable) -> usize {
+        if self.0 == 0 {
+            format_text(bytes, at, b"null")
+        } else {
+            format_number(bytes, at, shorts, self.0)
+        }
+    }
+}
+
+// ---- members
+
+/// A member of an object: a key, and its value.
+#[derive(Clone, Copy)]
+pub(crate) struct Member<A> {
+    pub(crate) key: Key,
+    pub(crate) value: A,
+}
+
+impl<A: Field> Field for Member<A> {
+    ghost text_of = { λ m. member m.key (A.text_of m.value) };
+
+    ghost longest = { 19 + A.longest };
+
+    fn longest() -> usize {
+        A::longest().saturating_add(19)
+    }
+
+    #[inline(always)]
+    #[tactic(auto, using(ip_text::proofs::FormatLaws::Formats_trans))]
+    fn format(self, bytes: &mut [u8], at: usize, shorts: &DecimalTable) -> usize {
+        let at = format_byte(bytes, at, b'"');
+        let at = format_text(bytes, at, self.key.name().as_bytes());
+        let at = format_text(bytes, at, b"\":");
+        self.value.format(bytes, at, shorts)
+    }
+}
+
+/// Members, with a comma between them.
+#[derive(Clone, Copy)]
+pub(crate) struct Comma<A, B>(pub(crate) A, pub(crate) B);
+
+impl<A: Field, B: Field> Field for Comma<A, B> {
+    ghost text_of = { λ f. A.text_of f.0 ++ 44 ∷ B.text_of f.1 };
+
+    ghost longest = { A.longest + (1 + B.longest) };
+
+    fn longest() -> usize {
+        A::longest().saturating_add(B::longest().saturating_add(1))
+    }
+
+    #[inline(always)]
+    #[tactic(auto, using(ip_text::proofs::FormatLaws::Formats_trans))]
+    fn format(self, bytes: &mut [u8], at: usize, shorts: &DecimalTable) -> usize {
+        let at = self.0.format(bytes, at, shorts);
+        let at = format_byte(bytes, at, b',');
+        self.1.format(bytes, at, shorts)
+    }
+}
+
+/// A whole line in JSON.
+#[derive(Clone, Copy)]
+struct Object<A>(A);
+
+impl<A: Field> Field for Object<A> {
+    ghost text_of = { λ o. 123 ∷ A.text_of o.0 ++ 125 ∷ 10 ∷ [] };
+
+    ghost longest = { A.longest + 3 };
+
+    fn longest() -> usize {
+        A::longest().saturating_add(3)
+    }
+
+    #[inline(always)]
+    #[tactic(auto, using(ip_text::proofs::FormatLaws::Formats_trans))]
+    fn format(self, bytes: &mut [u8], at: usize, shorts: &DecimalTable) -> usize {
+        let at = format_byte(bytes, at, b'{');
+        let at = self.0.format(bytes, at, shorts);
+        format_text(bytes, at, b"}\n")
+    }
+}
+
+// ---- columns
+
+/// Columns: their fields of text, and their members.
+#[derive(Clone, Copy)]
+pub(crate) struct Cells<A, B> {
+    pub(crate) text: A,
+    pub(crate) json: B,
+}
+
+/// A value in a column that has the name of its member.
+macro_rules! plain {
+    ($key:expr, $value:expr) => {{
+        let value = $value;
+        $crate::cells::Cells {
+            text: value,
+            json: $crate::cells::Member { key: $key, value },
+        }
+    }};
+}
+
+/// A number in a column that has the name of its member.
+macro_rules! number {
+    ($key:expr, $value:expr) => {
+        $crate::cells::plain!($key, $value as u128)
+    };
+}
+
+/// A value that may be absent, in a column that has the name of its member.
+macro_rules! if_any {
+    ($key:expr, $value:expr) => {{
+        let value = $value;
+        $crate::cells::Cells {
+            text: value,
+            json: $crate::cells::Member {
+                key: $key,
+                value: $crate::cells::OrNull(value),
+            },
+        }
+    }};
+}
+
+/// A text in a column that has the name of its member.
+macro_rules! word {
+    ($key:expr, $value:expr) => {{
+        let value = $value;
+        $crate::cells::Cells {
+            text: value,
+            json: $crate::cells::Member {
+                key: $key,
+                value: $crate::cells::Quoted(value),
+            },
+        }
+    }};
+}
+
+/// The column of a prefix.
+macro_rules! prefix {
+    ($layout:expr, $prefix:expr) => {
+        $crate::cells::word!(
+            report_request::Key::Prefix,
+            $crate::field::ShownPrefix {
+                prefix: $prefix,
+                layout: *$layout,
+            }
+        )
+    };
+}
+
+/// Columns, one before the other. That of a peer, which has two members, stands before others.
+macro_rules! columns {
+    (peer($layout:expr, $key:expr), $($rest:tt)+) => {{
+        let layout = *$layout;
+        let key = $key;
+        let form = layout.peer_addresses;
+        let asn = key.asn;
+        let addr = key.addr;
+        let addr = $crate::cells::ShownAddr { addr, form };
+        let shown = $crate::field::ShownPeer { key, layout };
+        let rest = $crate::cells::columns!($($rest)+);
+        $crate::cells::Cells {
+            text: (shown, rest.text),
+            json: $crate::cells::Comma(
+                $crate::cells::Member {
+                    key: report_request::Key::PeerAsn,
+                    value: asn,
+                },
+                $crate::cells::Comma(
+                    $crate::cells::Member {
+                        key: report_request::Key::PeerIp,
+                        value: $crate::cells::Quoted(addr),
+                    },
+                    rest.json,
+                ),
+            ),
+        }
+    }};
+    ($last:expr) => { $last };
+    ($first:expr, $($rest:tt)+) => {{
+        let first = $first;
+        let rest = $crate::cells::columns!($($rest)+);
+        $crate::cells::Cells {
+            text: (first.text, rest.text),
+            json: $crate::cells::Comma(first.json, rest.json),
+        }
+    }};
+}
+
+pub(crate) use columns;
+pub(crate) use if_any;
+pub(crate) use number;
+pub(crate) use plain;
+pub(crate) use prefix;
+pub(crate) use word;
+
+/// The members of a route's key.
+pub(crate) type KeyMembers<F> = Comma<
+    Member<Quoted<ShownPrefix<Prefix<F>, FamilyMark<F>>>>,
+    Member<IdentifierOrNull>,
+>;
+
+/// Returns the members of a route's key.
+#[inline(always)]
+pub(crate) fn key_members<F: WrittenAddress>(
+    layout: &LayoutOf<F>,
+    key: &RouteKey<Prefix<F>>,
+) -> KeyMembers<F>
+    ensures prefix { result.0 ≡ record {
+      key = PrefixKey;
+      value = record { 0 = record { prefix = key.now.prefix; layout = layout.now } };
+    } }
+    ensures id { result.1 ≡ record { key = PathId; value = record { 0 = key.now.id } } }
+{
+    let prefix = ShownPrefix {
+        prefix: key.prefix,
+        layout: *layout,
+    };
+    Comma(
+        Member {
+            key: Key::Prefix,
+            value: Quoted(prefix),
+        },
+        Member {
+            key: Key::PathId,
+            value: IdentifierOrNull(key.id),
+        },
+    )
+}
+
+// ---- lines
+
+/// Adds a line of these columns.
+#[inline(always)]
+pub(crate) fn put_line<T: Text, A: Field, B: Field>(
+    text: &mut T,
+    format: Format,
+    cells: Cells<A, B>,
+)
+    requires { (A.longest ≤ 1000) × (B.longest ≤ 1000) }
+    ensures { Adds (T.state text.old) (T.state text.new)
+        (line_as format (A.text_of cells.text) (B.text_of cells.json)) }
+{
+    match format {
+        Format::Text => put(text, Joined(cells.text, Byte(b'\n'))),
+        Format::Json => put(text, Object(cells.json)),
+    }
+}
