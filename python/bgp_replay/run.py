@@ -3,6 +3,7 @@
 import bz2
 import functools
 import gzip
+import json
 import os
 import re
 import shutil
@@ -76,6 +77,8 @@ class Replay:
     DamagedWarning, "raise" raises DamagedError, "ignore" does neither; a packed file that ends early, which `cut` then
     has and no report lists, is warned of in any case. `unpackers` is the number of threads that unpack files which the
     program doesn't read by itself. Options are those of the reports.
+
+    `json()` gives the lines as dicts in place of frames, with the keys of docs/USAGE.md.
     """
 
     def __init__(self, report, files, *, rows=frames.ROWS, damaged="warn", unpackers=None, **options):
@@ -97,7 +100,12 @@ class Replay:
 
     def _pieces(self):
         """The frames with the program's own columns; the last one once the program has ended well."""
-        command = [program(), self.report, "--header", "--summary"]
+        return self._read(["--header"], lambda stream: frames.pieces(self.kinds, stream, self.rows))
+
+    def _read(self, form, pieces):
+        """What `pieces` makes of the lines of a run with the options of `form`; its last piece once the program has
+        ended well."""
+        command = [program(), self.report, *form, "--summary"]
         kinds = {kind for kind in set(map(packing, self.files)) - {None} if not reads(kind)}
         names = ["./-" if name == "-" else name for name in self.files]
         self.unpacking = Unpacking(names, kinds, self.unpackers)
@@ -110,7 +118,7 @@ class Replay:
                     stderr=said, pass_fds=self.unpacking.fds, bufsize=0)
                 self.unpacking.start(child.kill)
                 try:
-                    for piece in frames.pieces(self.kinds, child.stdout, self.rows):
+                    for piece in pieces(child.stdout):
                         if last is not None:
                             yield last
                         last = piece
@@ -173,6 +181,30 @@ class Replay:
     def frame(self):
         """The whole report."""
         return frames.shaped(self.kinds, frames.joined(list(self._pieces())), self.files)
+
+    def json(self):
+        """The lines of the report as dicts, one after the other: what `--format json` prints.
+
+        Values are Python's own: None where the report has none, lists, and times in seconds as floats, which are right
+        to the microsecond. `file` is a number, and addresses are short. The last ones come once the program has ended
+        well, and what is raised and warned of is that of frames.
+        """
+        for lines in self._read(["--format", "json"], _batches):
+            yield from map(json.loads, lines)
+
+
+def _batches(stream):
+    """Lists of successive lines, of some mebibytes at most. ValueError: the last line is cut off."""
+    waiting = bytearray()
+    while chunk := stream.read(1 << 20):
+        waiting += chunk
+        if len(waiting) >= 1 << 20:
+            *lines, waiting = waiting.split(b"\n")
+            yield lines
+    *lines, rest = waiting.split(b"\n")
+    if rest:
+        raise ValueError(f"a line is cut off: {rest[:80]!r}")
+    yield lines
 
 
 def level():
