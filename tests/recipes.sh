@@ -3,15 +3,15 @@
 # indented blocks, behind `$ `, and a block is run by one shell. Its files are those of examples/, under the names that the recipes give them, and are
 # compressed here. Blocks of one page share a directory. Notes count only where the page has one below the command.
 #   tests/recipes.sh PROGRAM
-# Needs bash and coreutils; what needs sqlite3, bzip2, gzip or awk is skipped where that isn't installed, and named. The last line is
-# `N passed, M failed`.
+# Needs bash and coreutils; what needs sqlite3, bzip2, gzip, awk, jq, python3 or its pandas is skipped where that isn't installed, and
+# named. The last line is `N passed, M failed`.
 set -u
 program=$(realpath "$1"); top=$(dirname "$(dirname "$(realpath "$0")")"); work=$(mktemp -d); trap 'rm -rf "$work"' EXIT
 pages='README.md docs/USAGE.md docs/RECIPES.md'
 mkdir "$work/bin" "$work/dumps" && ln -s "$program" "$work/bin/bgp_replay" && cd "$work/dumps" || exit 2
 export PATH=$work/bin:$PATH LC_ALL=C
 cp "$top/examples/sample.mrt" rib.mrt && cp "$top/examples/updates.mrt" updates.mrt || exit 2
-has() { command -v "$1" > "$work/where"; }
+has() { case $1 in python3-*) python3 -c "import ${1#python3-}" > "$work/where" 2>&1 ;; *) command -v "$1" > "$work/where" ;; esac; }
 if has gzip; then gzip -9nc rib.mrt > bview.20261122.0700.gz; gzip -9nc updates.mrt > updates.20261122.0705.gz; cp bview.20261122.0700.gz rib.gz; fi
 if has bzip2; then bzip2 -c rib.mrt > rib.20261122.0700.bz2; bzip2 -c updates.mrt > updates.20261122.0700.bz2; fi
 passed=0; failed=0
@@ -37,7 +37,7 @@ run_block() { # FOLDER COUNT
 try_block() { # PAGE FOLDER
   local count missing='' needed
   count=$(ls "$2" | grep -c '\.out$')
-  for needed in 'sqlite3 sqlite3' 'bzcat bzip2' 'bz2 bzip2' 'zcat gzip' 'gz gzip' 'awk awk'; do
+  for needed in 'sqlite3 sqlite3' 'bzcat bzip2' 'bz2 bzip2' 'zcat gzip' 'gz gzip' 'awk awk' 'jq jq' 'python3 python3' 'pandas python3-pandas'; do
     if cat "$2"/*[0-9] | grep -qw -- "${needed% *}" && ! has "${needed#* }"; then missing=${needed#* }; fi
   done
   if [ -n "$missing" ]; then echo "skipped: $missing isn't installed: $1: $(head -n 1 "$2/1")"; return; fi

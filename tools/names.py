@@ -31,13 +31,14 @@ MADE = ("out", "bin", "dist")
 OUTSIDE = {
     "words of the language": "requires ensures unfoldable unfolding unreachable u32 u128 usize",
     "of Rust's std and of C's library": "BTreeMap File Stdout Vec u64::MAX mem::forget memcpy",
-    "programs": "make gzip bzip2 zstd bzcat cat dd sort grep head",
+    "programs": "make gzip bzip2 zstd bzcat cat dd sort grep head jq",
     "names of the environment": "PATH PYTHONPATH BGP_REPLAY GLIBC_TUNABLES DASK_DISTRIBUTED__WORKER__PROFILE__INTERVAL",
     "the toolchain, and what `rt` prints": "dac8208d650f15bf rattle-kit-13f proves",
     "a template of `rt new`, and what it leaves": "start_lib BUILD.bazel",
     "options of `rt`": "--only --test",
     "endings of names": "_in _at _bytes",
-    "functions of mathematics and of pandas": "ceil astype",
+    "functions of mathematics, of Python and of pandas": "ceil json.loads astype read_json",
+    "a word of JSON": "null",
 }
 RT_COMMANDS = "ci check try test plant tidy fmt all lemma must-fail new doc version run lib verdict".split()
 # What is meant as it stands, with the reason.
