@@ -112,8 +112,8 @@ pub fn faults_stand_by_place()
         IsStableByKey (λ d. d.place) place_cmp (all_faults tables) (fault_rows tables) }
 {}
 
-/// Two lines in JSON with the same keys are the same where all their values are. A value is one that ends where it ends,
-/// whatever follows: a number, a text without a quote in quotes.
+/// Two lines in JSON with the same keys are the same where all their values are. A value is one that ends where it
+/// ends, whatever follows: a number, a text without a quote in quotes.
 pub fn json_lines_spell_their_fields()
     ensures lines { (fields others : List (AnyKey × List ℕ)) → map (λ f. f.0) fields ≡ map (λ f. f.0) others →
         AllByRecursion (λ f. IsValue f.1) fields → AllByRecursion (λ f. IsValue f.1) others →
