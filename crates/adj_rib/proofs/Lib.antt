@@ -12,8 +12,8 @@ pub mod MappedValues
 pub mod NamedRoutes
 pub mod Listings
 pub mod Refolded
+pub mod KeptRoutes
 pub mod Selected
-pub mod RetainLaws
 pub mod NotingLaws
 pub mod WatchLaws
 pub mod WindowLaws

@@ -100,7 +100,7 @@ module _ {K : Type 0} (keep : K → Note → K) (bytes : List ℕ) (before after
   had : option_map (by_id bytes) old ≡ finite.get was_named key
   had = ap (option_map (by_id bytes)) was ∙ sym (get-named_routes bytes before key)
 
-  pub announced : (id : RouteId) → after ≡ finite.insert before key id → outcome ≡ announced_over (option_map (by_id bytes) old) (route_at bytes id.at) → now ≡ keep kept (record { what = what_of outcome; key = key; route = Some (route_at bytes id.at) }) →
+  pub announced : (id : RouteId) → after ≡ finite.insert before key id → outcome ≡ announced_over (option_map (by_id bytes) old) (route_at bytes id.at) → now ≡ keep kept (record { what = what_of outcome; key = key; route = Some (route_at bytes id.at); before = option_map (by_id bytes) old }) →
       ((named_routes bytes after, d), now) ≡ applied_noting keep ((was_named, c), kept) (announce key (route_at bytes id.at))
   announced id is by noted =
       let route = route_at bytes id.at in
@@ -108,17 +108,17 @@ module _ {K : Type 0} (keep : K → Note → K) (bytes : List ℕ) (before after
       let over : outcome ≡ announced_over (finite.get was_named key) route = by ∙ ap (λ (o : Option Route). announced_over o route) had in
       let churn : d ≡ counted (announced_over (finite.get was_named key) route) c = count ∙ ap (λ (o : Outcome). counted o c) over in
       let what = ap what_of over ∙ what_announced (finite.get was_named key) route in
-      let told : now ≡ keep kept (announced_note (finite.get was_named key) key route) = noted ∙ ap (λ w. keep kept (record { what = w; key = key; route = Some route })) what in
+      let told : now ≡ keep kept (announced_note (finite.get was_named key) key route) = noted ∙ (λ i. keep kept (record { what = what i; key = key; route = Some route; before = had i })) in
       λ i. ((grown i, churn i), told i)
 
-  pub withdrawn : after ≡ finite.remove before key → outcome ≡ (if is_some old then Gone else Void) → now ≡ keep kept (record { what = what_of outcome; key = key; route = option_map (by_id bytes) old }) →
+  pub withdrawn : after ≡ finite.remove before key → outcome ≡ (if is_some old then Gone else Void) → now ≡ keep kept (record { what = what_of outcome; key = key; route = option_map (by_id bytes) old; before = option_map (by_id bytes) old }) →
       ((named_routes bytes after, d), now) ≡ applied_noting keep ((was_named, c), kept) (withdraw key)
   withdrawn is by noted =
       let less : named_routes bytes after ≡ finite.remove was_named key = named_routes-remove bytes before after key is in
       let over : outcome ≡ (if is_some (finite.get was_named key) then Gone else Void) = by ∙ ap (λ b. if b then Gone else Void) (mapped_is (by_id bytes) old ∙ ap is_some had) in
       let churn : d ≡ counted (if is_some (finite.get was_named key) then Gone else Void) c = count ∙ ap (λ (o : Outcome). counted o c) over in
       let what = ap what_of over ∙ what_withdrawn (finite.get was_named key) in
-      let told : now ≡ keep kept (withdrawn_note (finite.get was_named key) key) = noted ∙ (λ i. keep kept (record { what = what i; key = key; route = had i })) in
+      let told : now ≡ keep kept (withdrawn_note (finite.get was_named key) key) = noted ∙ (λ i. keep kept (record { what = what i; key = key; route = had i; before = had i })) in
       λ i. ((less i, churn i), told i)
 
 -- before an announcement: what is there stays as routes are added

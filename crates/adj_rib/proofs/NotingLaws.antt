@@ -1,6 +1,6 @@
 -- What is kept of notes beside a table and its counts: it changes neither.
-use Rattle.std.proofs.Common.{◌≡◌, ℕ, Bool, List, [], ◌∷◌, ◌++◌, map, Result, Ok, Err, refl, sym, ap, ◌∙◌, if◌then◌else◌}
-use Rattle.std.specs.List.{fold}
+use Rattle.std.proofs.Common.{◌≡◌, ℕ, Bool, true, false, cond, List, [], ◌∷◌, ◌++◌, map, Result, Ok, Err, refl, sym, ap, ◌∙◌, if◌then◌else◌}
+use Rattle.std.specs.List.{filter, fold}
 use Rattle.std.proofs.lemmas.List.Sums.{fold-append}
 use Rattle.std.proofs.lemmas.List.Elements.{filter-append}
 use Rattle.bgp_prefix.specs.Keys.{RouteKey}
@@ -11,15 +11,18 @@ use Rattle.peer_units.specs.declared.unit.Place.{Place}
 use Rattle.peer_units.specs.DecodedEvents.{Means, is_recorded_event}
 use Rattle.peer_units.specs.Events.{event_in}
 use Rattle.peer_units.specs.Payloads.{is_recorded}
-use Rattle.adj_rib.specs.declared.churn.Churn.{Churn}
 use Rattle.adj_rib.specs.Plain.{Note}
 use Rattle.adj_rib.specs.Steps.{Step, break, clear, announce, withdraw}
 use Rattle.adj_rib.specs.Tables.{IsTable}
 use Rattle.adj_rib.specs.Churns.{damage_in, reading_of}
 use Rattle.adj_rib.specs.Applied.{RibState, RouteMap, applied, listed, refused, timed, timed_by}
 use Rattle.adj_rib.specs.Selecting.{keeps, selected_steps}
-use Rattle.adj_rib.specs.Histories.{announced_note, lost_note, noted_after, noted_behind, withdrawn_note}
-use Rattle.adj_rib.specs.Noting.{Takes, applied_noting, followed_noting, noted_on, read_noting, taken_noting}
+use Rattle.bgp_update.specs.declared.route.Route.{Route}
+use Rattle.route_choice.specs.Choices.{RouteChoice}
+use Rattle.adj_rib.specs.declared.churn.Churn.{Churn}
+use Rattle.adj_rib.specs.declared.outcome.What.TheVariants.{Lost}
+use Rattle.adj_rib.specs.Histories.{announced_note, lost_note, meets_choice, noted_after, noted_behind, outcome_noted, withdrawn_note}
+use Rattle.adj_rib.specs.Noting.{Takes, applied_noting, counted_note, counted_this, keep_beside, keep_chosen, followed_noting, noted_on, read_noting, taken_noting}
 use Rattle.adj_rib.proofs.TableLaws.{entries-IsTable}
 use Rattle.adj_rib.proofs.Stepping.{table_step}
 use Rattle.adj_rib.proofs.Taking.{timed_told}
@@ -38,10 +41,36 @@ module _ {K : Type 0} (keep : K → Note → K) where
       ∙ sym (fold-append (applied_noting keep) seen (selected_steps selects one) (selected_steps selects two))
       ∙ ap (fold (applied_noting keep) seen) (sym (filter-append (keeps selects) one two))
 
-  -- where nothing is kept of a note, nothing is kept of many
-  pub kept_same : (kept : K) → ((note : Note) → keep kept note ≡ kept) → (notes : List Note) → fold keep kept notes ≡ kept
+  -- where nothing is kept of a loss, nothing is kept of many
+  pub kept_same : (kept : K) → ((note : Note) → note.what ≡ Lost → keep kept note ≡ kept) → (table : List (RouteKey × Route)) → fold keep kept (map lost_note table) ≡ kept
   kept_same kept h [] = refl
-  kept_same kept h (note ∷ notes) = ap (λ k. fold keep k notes) (h note) ∙ kept_same kept h notes
+  kept_same kept h (e ∷ table) = ap (λ k. fold keep k (map lost_note table)) (h (lost_note e) refl) ∙ kept_same kept h table
+
+  -- what is kept of all notes, where counts and more are kept of those about chosen routes
+  pub kept_chosen : (choice : RouteChoice) (c : Churn) (kept : K) (notes : List Note)
+      → fold (keep_chosen keep) ((choice, c), kept) notes ≡ ((choice, fold counted_note c (filter (meets_choice choice) notes)), fold keep kept (filter (meets_choice choice) notes))
+  kept_chosen choice c kept [] = refl
+  kept_chosen choice c kept (note ∷ notes) =
+      elim (meets_choice choice note) as (λ b. fold (keep_chosen keep) (if b then ((choice, counted_note c note), keep kept note) else ((choice, c), kept)) notes
+      ≡ ((choice, fold counted_note c (cond b (note ∷ filter (meets_choice choice) notes) (filter (meets_choice choice) notes))), fold keep kept (cond b (note ∷ filter (meets_choice choice) notes) (filter (meets_choice choice) notes)))) [
+        | true ↦ kept_chosen choice (counted_note c note) (keep kept note) notes
+        | false ↦ kept_chosen choice c kept notes
+      ]
+
+  -- what stays beside what is kept
+  pub kept_beside : {X : Type 0} (x : X) (kept : K) (notes : List Note) → fold (keep_beside keep) (x, kept) notes ≡ (x, fold keep kept notes)
+  kept_beside x kept [] = refl
+  kept_beside x kept (note ∷ notes) = kept_beside x (keep kept note) notes
+
+  -- where nothing is kept of a loss, no more is kept of it beside the counts
+  pub lost_beside : (choice : RouteChoice) (c : Churn) (kept : K) → ((note : Note) → note.what ≡ Lost → keep kept note ≡ kept) → (note : Note) → note.what ≡ Lost → keep_chosen keep ((choice, c), kept) note ≡ ((choice, c), kept)
+  lost_beside choice c kept h note lost =
+      let was : (RouteChoice × Churn) × K = ((choice, c), kept) in
+      let more : (RouteChoice × Churn) × K = ((choice, counted_note c note), keep kept note) in
+      elim (meets_choice choice note) as (λ b. (if b then more else was) ≡ was) [
+        | true ↦ λ i. ((choice, ap (λ w. counted_this (outcome_noted w) c) lost i), h note lost i)
+        | false ↦ refl
+      ]
 
   -- what is kept changes neither the table nor its counts
   pub rib_beside : (steps : List Step) (rib : RouteMap × Churn) (kept : K) → (fold (applied_noting keep) (rib, kept) steps).0 ≡ fold applied rib steps

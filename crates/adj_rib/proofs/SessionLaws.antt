@@ -4,6 +4,7 @@ use Rattle.std.proofs.Common.{◌≡◌, Bool, true, false, List, [], ◌∷◌,
 use Rattle.std.specs.FinMap as finite
 use Rattle.bgp_prefix.specs.Keys.{RouteKey}
 use Rattle.bgp_update.specs.declared.route.Route.{Route}
+use Rattle.peer_units.specs.Choices.{every_choice}
 use Rattle.peer_units.specs.Plain.{Unit as ReplayUnit}
 use Rattle.adj_rib.specs.declared.arrivals.Arrivals.{Arrivals}
 use Rattle.adj_rib.specs.Plain.{Note}
@@ -18,7 +19,7 @@ use Rattle.adj_rib.specs.Histories.{WatchState, WatchesFor, watch_of}
 use Rattle.adj_rib.specs.Noting.{followed_noting, taken_noting}
 use Rattle.adj_rib.proofs.TableLaws.{entries-IsTable, IsTable_start}
 use Rattle.adj_rib.proofs.Taking.{arrived-push, is_established-push}
-use Rattle.adj_rib.proofs.WatchLaws.{seen_as, watch_stands}
+use Rattle.adj_rib.proofs.WatchLaws.{seen_as, whole_stands}
 use Rattle.adj_rib.proofs.WindowLaws.{churn_within-all}
 
 -- where no prefix is named, every entry is selected
@@ -29,7 +30,7 @@ open_entries (e ∷ table) = ap (λ (l : List (RouteKey × Route)). e ∷ l) (op
 abbrev pub session_with : RibState → Arrivals → Bool → SessionState
 session_with k arrivals spent = record { up = k.up; established = k.established; table = finite.entries k.table; churn = k.churn; arrivals = arrivals; faults = k.faults; spent = spent }
 
-as_watch : (units : List ReplayUnit) (k : RibState) (arrivals : Arrivals) (spent : Bool) → session_with k arrivals spent ≡ session_of units → WatchesFor None [] units (seen_as k)
+as_watch : (units : List ReplayUnit) (k : RibState) (arrivals : Arrivals) (spent : Bool) → session_with k arrivals spent ≡ session_of units → WatchesFor None every_choice units (seen_as k k.churn)
 unfolding session_of watch_of
 as_watch units k arrivals spent h =
     let table = ap (λ (s : SessionState). s.table) h ∙ sym (open_entries (table_of (steps_of units))) in
@@ -46,7 +47,7 @@ module _ {K : Type 0} (keep : K → Note → K) (before : List ReplayUnit) (unit
   unfolding session_of watch_of
   session_after arrivals came spent unspent h counted =
       let after = before ++ unit ∷ [] in
-      let watch : WatchesFor None [] after (seen_as now) = watch_stands None [] keep before unit k now kept told e (as_watch before k arrivals spent h) in
+      let watch : WatchesFor None every_choice after (seen_as now now.churn) = whole_stands keep before unit k now kept told e (as_watch before k arrivals spent h) in
       let established = established_then (ap (λ (s : SessionState). s.established) h) in
       let table = ap (λ (w : WatchState). w.table) watch ∙ open_entries (table_of (steps_of after)) in
       let churn = ap (λ (w : WatchState). w.churn) watch ∙ churn_within-all after in

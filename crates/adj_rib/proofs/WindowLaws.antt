@@ -17,7 +17,7 @@ use Rattle.bgp_update.specs.declared.route.Route.{Route}
 use Rattle.bgp_update.specs.Updates.{Update}
 use Rattle.bgp_update.specs.Equality.{route_eq}
 use Rattle.bgp_update.specs.Hops.{by_hop}
-use Rattle.peer_units.specs.Plain.{PrefixChoice}
+use Rattle.peer_units.specs.Choices.{Choices, every_choice}
 use Rattle.peer_units.specs.Plain.{Event}
 use Rattle.peer_units.specs.declared.meaning.Event.TheVariants as event
 use Rattle.peer_units.specs.Plain.{Unit as ReplayUnit}
@@ -35,21 +35,13 @@ use Rattle.adj_rib.specs.Selecting.{keeps, selected_steps}
 use Rattle.adj_rib.specs.Churns.{announced_over, outcome_of, outcomes_of, is_outcome, count_of, is_break, is_routing, reading_of, first_time, last_time, stopped, churn_of}
 use Rattle.adj_rib.specs.Applied.{RouteMap, applied, counted, counted_if, noted, timed, timed_by}
 use Rattle.adj_rib.specs.Histories.{announced_note, withdrawn_note, lost_note, noted_after, noted_behind, unit_notes, chosen_notes, is_before, units_within, notes_within, idle_within, outcome_noted, is_this, has_outcome, churn_by, churn_within}
+use Rattle.adj_rib.specs.Noting.{counted_note, counted_this}
 use Rattle.adj_rib.proofs.After.{steps_of-push}
 use Rattle.adj_rib.proofs.Positions.{after_itself, after_twice, counts_after}
 use Rattle.adj_rib.proofs.Stepping.{stopped-count_by-push, table_step}
 use Rattle.adj_rib.proofs.Taking.{first_time-push, last_time-push}
 
 -- ---- one note more
-
--- after one more outcome, if there is one
-abbrev counted_this : Option Outcome → Churn → Churn
-counted_this None c = c
-counted_this (Some o) c = counted o c
-
--- after one more note
-abbrev pub counted_note : Churn → Note → Churn
-counted_note c note = counted_this (outcome_noted note.what) c
 
 -- the counts of churn with one more of what a note says
 by_what : (what : What) (c : Churn) → record c {
@@ -122,7 +114,7 @@ unit_more notes flags units up u =
     })
     ∙ kept_apart (is_recorded u.payload) u.time (is_break (reading_of u)) (is_routing (reading_of u) && not up) (is_err (reading_of u)) (churn_by notes flags units)
 
-module _ (since : Option ℕ) (choices : List PrefixChoice) (before : List ReplayUnit) (u : ReplayUnit) where
+module _ (since : Option ℕ) (choices : Choices) (before : List ReplayUnit) (u : ReplayUnit) where
   abbrev own : List Note
   own = chosen_notes choices (unit_notes before u)
 
@@ -237,7 +229,7 @@ module _ (selects : RouteKey → Bool) where
 
 -- ---- without a second and prefixes
 
-all_chosen : (notes : List Note) → chosen_notes [] notes ≡ notes
+all_chosen : (notes : List Note) → chosen_notes every_choice notes ≡ notes
 all_chosen [] = refl
 all_chosen (note ∷ notes) = ap (λ (l : List Note). note ∷ l) (all_chosen notes)
 
@@ -246,7 +238,7 @@ all_within [] = refl
 all_within (u ∷ units) = ap (λ (l : List ReplayUnit). u ∷ l) (all_within units)
 
 -- what units do is what their steps do
-all_notes : (units : List ReplayUnit) → notes_within None [] units ≡ noted_behind [] (steps_of units)
+all_notes : (units : List ReplayUnit) → notes_within None every_choice units ≡ noted_behind [] (steps_of units)
 unfolding notes_within unit_notes steps_of
 all_notes units =
     (λ i. flat_map_after (λ b u. all_chosen (unit_notes b u) i) [] units)
@@ -261,7 +253,7 @@ module _ (which : Outcome) (other : is_outcome which outcome.Reset ≡ false) (u
   announced : (old : Option Route) (k : RouteKey) (route : Route) → count_by (has_outcome which) (announced_note old k route ∷ []) ≡ count_by (is_outcome which) (announced_over old route ∷ [])
   announced None k route = refl
   announced (Some old) k route =
-      elim (route_eq old route) as (λ b. count_by (has_outcome which) (record { what = if b then Same else Changed; key = k; route = Some route } ∷ []) ≡ count_by (is_outcome which) ((if b then outcome.Same else outcome.Changed) ∷ [])) [
+      elim (route_eq old route) as (λ b. count_by (has_outcome which) (record { what = if b then Same else Changed; key = k; route = Some route; before = Some old } ∷ []) ≡ count_by (is_outcome which) ((if b then outcome.Same else outcome.Changed) ∷ [])) [
         | true ↦ refl
         | false ↦ refl
       ]
@@ -276,7 +268,7 @@ module _ (which : Outcome) (other : is_outcome which outcome.Reset ≡ false) (u
   step_counts before (announce k route) = announced (route_at before k) k route
   step_counts before (withdraw k) = withdrawn (route_at before k) k
 
-  same_count : (units : List ReplayUnit) → count_by (has_outcome which) (notes_within None [] units) ≡ count_of which (outcomes_of (steps_of units))
+  same_count : (units : List ReplayUnit) → count_by (has_outcome which) (notes_within None every_choice units) ≡ count_of which (outcomes_of (steps_of units))
   unfolding outcomes_of
   same_count units = ap (count_by (has_outcome which)) (all_notes units) ∙ counts_after (has_outcome which) (is_outcome which) noted_after (λ b s. outcome_of b s ∷ []) step_counts [] (steps_of units)
 
@@ -325,7 +317,7 @@ breaks_are units =
     ∙ counts_after is_break_step (is_outcome outcome.Reset) (λ _ s. s ∷ []) (λ b s. outcome_of b s ∷ []) step_breaks [] all
 
 -- what is counted without a second and prefixes is what is counted of all units
-pub churn_within-all : (units : List ReplayUnit) → churn_within None [] units ≡ churn_of units
+pub churn_within-all : (units : List ReplayUnit) → churn_within None every_choice units ≡ churn_of units
 unfolding churn_within churn_of idle_within
 churn_within-all units = λ i. record {
   added = stopped (same_count outcome.Added refl refl units i);

@@ -1,12 +1,13 @@
 -- What happened to each key of a peer: a note of each announcement and withdrawal, and of each route that a break or a
 -- clear ended (RFC 4271, 3.2, 4.3 and 9).
-use Rattle.std.specs.Prelude.{◌≡◌, ℕ, ◌/◌, Bool, false, not, ◌&&◌, List, [], ◌∷◌, map, Option, Some, None, is_err, nat_lt, if◌then◌else◌}
+use Rattle.std.specs.Prelude.{◌≡◌, ℕ, ◌/◌, Bool, false, not, ◌&&◌, ◌||◌, List, [], ◌∷◌, map, Option, Some, None, is_err, nat_lt, if◌then◌else◌}
 use Rattle.std.specs.List.{count_by, filter}
 use Rattle.mrt_frame.specs.Positions.{flat_map_after}
 use Rattle.bgp_prefix.specs.Keys.{RouteKey}
 use Rattle.bgp_update.specs.declared.route.Route.{Route}
 use Rattle.bgp_update.specs.Equality.{route_eq}
-use Rattle.peer_units.specs.Plain.{PrefixChoice}
+use Rattle.route_choice.specs.Choices.{RouteChoice, is_chosen_route, names_nothing}
+use Rattle.peer_units.specs.Choices.{Choices}
 use Rattle.peer_units.specs.declared.unit.Damage.{Damage}
 use Rattle.peer_units.specs.Plain.{Unit as ReplayUnit}
 use Rattle.adj_rib.specs.declared.churn.Churn.{Churn}
@@ -34,15 +35,15 @@ what_without (Some old) = Gone
 
 -- an announcement of a key that had this route, or none: its route is the new one
 abbrev pub announced_note : Option Route → RouteKey → Route → Note
-announced_note old k route = record { what = what_over old route; key = k; route = Some route }
+announced_note old k route = record { what = what_over old route; key = k; route = Some route; before = old }
 
 -- a withdrawal of it: its route is the one that went
 abbrev pub withdrawn_note : Option Route → RouteKey → Note
-withdrawn_note old k = record { what = what_without old; key = k; route = old }
+withdrawn_note old k = record { what = what_without old; key = k; route = old; before = old }
 
 -- an entry of a table that was emptied
 abbrev pub lost_note : RouteKey × Route → Note
-lost_note e = record { what = Lost; key = e.0; route = Some e.1 }
+lost_note e = record { what = Lost; key = e.0; route = Some e.1; before = Some e.1 }
 
 -- what a step does after these steps: a break or a clear ends each route, in the order of the keys
 abbrev pub noted_after : List Step → Step → List Note
@@ -61,9 +62,21 @@ noted_behind before steps = flat_map_after noted_after before steps
 unfoldable pub unit_notes : List ReplayUnit → ReplayUnit → List Note
 unit_notes before unit = noted_behind (steps_of before) (unit_steps (is_up before) unit)
 
--- the notes on keys of chosen prefixes
-abbrev pub chosen_notes : List PrefixChoice → List Note → List Note
-chosen_notes choices notes = filter (λ note. chooses choices note.key) notes
+-- there is a route, and it is chosen
+abbrev pub has_chosen : RouteChoice → Option Route → Bool
+has_chosen choice None = false
+has_chosen choice (Some route) = is_chosen_route choice route
+
+-- the route is chosen that the key has from then on or that went, or the one before it; where none is named, all are
+abbrev pub meets_choice : RouteChoice → Note → Bool
+meets_choice choice note = names_nothing choice || (has_chosen choice note.route || has_chosen choice note.before)
+
+-- the notes on keys of chosen prefixes that are about chosen routes
+abbrev pub is_chosen_note : Choices → Note → Bool
+is_chosen_note choices note = meets_choice choices.routes note && chooses choices.prefixes note.key
+
+abbrev pub chosen_notes : Choices → List Note → List Note
+chosen_notes choices notes = filter (is_chosen_note choices) notes
 
 -- ---- what is counted of it
 
@@ -76,8 +89,8 @@ is_before (Some since) time = nat_lt (time / 1000000) since
 abbrev pub units_within : Option ℕ → List ReplayUnit → List ReplayUnit
 units_within since units = filter (λ unit. not (is_before since unit.time)) units
 
--- what the units from this second on did to chosen keys, each after all the peer's units before it
-unfoldable pub notes_within : Option ℕ → List PrefixChoice → List ReplayUnit → List Note
+-- what the units from this second on did to chosen keys and routes, each after all the peer's units before it
+unfoldable pub notes_within : Option ℕ → Choices → List ReplayUnit → List Note
 notes_within since choices units =
     flat_map_after
     (λ before unit. if is_before since unit.time then [] else chosen_notes choices (unit_notes before unit)) [] units
@@ -121,11 +134,15 @@ churn_by notes flags units = record {
   last = last_time units;
 }
 
--- What a peer's units from this second on did to chosen keys, counted over a replay from the beginning; and how many of
+-- What a peer's units from this second on did to chosen keys and routes, counted over a replay from the beginning; and how many of
 -- them were breaks, idle or damaged, and the times of the first and the last.
-unfoldable pub churn_within : Option ℕ → List PrefixChoice → List ReplayUnit → Churn
+unfoldable pub churn_within : Option ℕ → Choices → List ReplayUnit → Churn
 churn_within since choices units =
     churn_by (notes_within since choices units) (idle_within since units) (units_within since units)
+
+-- the counts of one, with those of announcements and withdrawals of another one
+abbrev pub with_outcomes : Churn → Churn → Churn
+with_outcomes c d = record c { added = d.added; changed = d.changed; same = d.same; gone = d.gone; void = d.void }
 
 -- ---- what a watch is
 
@@ -136,15 +153,15 @@ pub record WatchState : Type 0 where
   pub churn : Churn
   pub faults : List Damage
 
--- what a watch on chosen prefixes is that took these units, in this order, and counts from this second on
-unfoldable pub watch_of : Option ℕ → List PrefixChoice → List ReplayUnit → WatchState
+-- what a watch on chosen prefixes and routes is that took these units, in this order, and counts from this second on
+unfoldable pub watch_of : Option ℕ → Choices → List ReplayUnit → WatchState
 watch_of since choices units = record {
   up = is_up units;
-  table = selected_entries (chooses choices) (table_of (steps_of units));
+  table = selected_entries (chooses choices.prefixes) (table_of (steps_of units));
   churn = churn_within since choices units;
   faults = damaged_of units;
 }
 
--- a watch on chosen prefixes that took these units, and counts from this second on
-abbrev pub WatchesFor : Option ℕ → List PrefixChoice → List ReplayUnit → WatchState → Type 0
+-- a watch on chosen prefixes and routes that took these units, and counts from this second on
+abbrev pub WatchesFor : Option ℕ → Choices → List ReplayUnit → WatchState → Type 0
 WatchesFor since choices units watch = watch ≡ watch_of since choices units

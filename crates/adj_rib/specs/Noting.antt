@@ -1,10 +1,11 @@
 -- What one step, and one unit, does to what a session keeps and to what is kept of the notes on it, where the routes of
 -- some keys alone are kept: the rules one at a time, as the code follows them.
-use Rattle.std.specs.Prelude.{◌≡◌, Bool, List, [], ◌∷◌, map, Result, Ok, Err}
+use Rattle.std.specs.Prelude.{◌≡◌, Bool, List, [], ◌∷◌, map, Option, Some, None, Result, Ok, Err, if◌then◌else◌}
 use Rattle.std.specs.List.{fold}
 use Rattle.std.specs.FinMap as finite
 use Rattle.bgp_prefix.specs.Keys.{RouteKey}
 use Rattle.mrt_frame.specs.declared.fault.Fault.{Fault}
+use Rattle.route_choice.specs.Choices.{RouteChoice}
 use Rattle.peer_units.specs.Plain.{Event}
 use Rattle.peer_units.specs.Plain.{Unit as ReplayUnit}
 use Rattle.peer_units.specs.declared.unit.Place.{Place}
@@ -16,9 +17,9 @@ use Rattle.adj_rib.specs.declared.outcome.Outcome.TheVariants as outcome
 use Rattle.adj_rib.specs.Plain.{Note}
 use Rattle.adj_rib.specs.Steps.{Step, break, clear, announce, withdraw, reading_steps}
 use Rattle.adj_rib.specs.Churns.{damage_in, reading_of}
-use Rattle.adj_rib.specs.Applied.{RibState, RouteMap, applied, established_after, listed, noted, refused, timed_by, up_after}
+use Rattle.adj_rib.specs.Applied.{RibState, RouteMap, applied, counted, established_after, listed, noted, refused, timed_by, up_after}
 use Rattle.adj_rib.specs.Selecting.{selected_steps}
-use Rattle.adj_rib.specs.Histories.{announced_note, withdrawn_note, lost_note}
+use Rattle.adj_rib.specs.Histories.{announced_note, withdrawn_note, lost_note, meets_choice, outcome_noted}
 
 -- what happened to a key by a step with this outcome
 abbrev pub what_of : Outcome → What
@@ -36,6 +37,24 @@ noted_on table break = map lost_note (finite.entries table)
 noted_on table clear = map lost_note (finite.entries table)
 noted_on table (announce k route) = announced_note (finite.get table k) k route ∷ []
 noted_on table (withdraw k) = withdrawn_note (finite.get table k) k ∷ []
+
+-- one more outcome counted, if there is one
+abbrev pub counted_this : Option Outcome → Churn → Churn
+counted_this None c = c
+counted_this (Some o) c = counted o c
+
+-- after one more note
+abbrev pub counted_note : Churn → Note → Churn
+counted_note c note = counted_this (outcome_noted note.what) c
+
+-- what is kept beside something that stays
+abbrev pub keep_beside : {X K : Type 0} → (K → Note → K) → X × K → Note → X × K
+keep_beside keep kept note = (kept.0, keep kept.1 note)
+
+-- counts, and what is kept, after one more note, if it is about a route that the choice beside them takes
+abbrev pub keep_chosen : {K : Type 0} → (K → Note → K) → (RouteChoice × Churn) × K → Note → (RouteChoice × Churn) × K
+keep_chosen keep seen note =
+    if meets_choice seen.0.0 note then ((seen.0.0, counted_note seen.0.1 note), keep seen.1 note) else seen
 
 -- a table with its counts, and what is kept of the notes, after one more step
 abbrev pub applied_noting : {K : Type 0} → (K → Note → K) → (RouteMap × Churn) × K → Step → (RouteMap × Churn) × K

@@ -1,12 +1,13 @@
 -- What a selection of keys leaves of steps, tables and outcomes.
-use Rattle.std.specs.Prelude.{Bool, true, List, [], ◌∷◌, if◌then◌else◌}
+use Rattle.std.specs.Prelude.{Bool, true, ◌&&◌, List, [], ◌∷◌, if◌then◌else◌}
 use Rattle.std.specs.List.{filter}
 use Rattle.mrt_frame.specs.Positions.{flat_map_after}
 use Rattle.bgp_prefix.specs.Keys.{RouteKey}
 use Rattle.bgp_update.specs.declared.route.Route.{Route}
 use Rattle.peer_units.specs.Plain.{PrefixChoice}
 use Rattle.peer_units.specs.Plain.{Unit as ReplayUnit}
-use Rattle.peer_units.specs.Choices.{is_chosen}
+use Rattle.route_choice.specs.Choices.{is_chosen_route}
+use Rattle.peer_units.specs.Choices.{Choices, is_chosen}
 use Rattle.peer_units.specs.Selections.{concerns}
 use Rattle.adj_rib.specs.declared.outcome.Outcome.{Outcome}
 use Rattle.adj_rib.specs.Steps.{Step, break, clear, announce, withdraw}
@@ -34,6 +35,13 @@ selected_outcomes selects steps =
 -- the keys of chosen prefixes
 abbrev pub chooses : List PrefixChoice → RouteKey → Bool
 chooses choices k = is_chosen choices k.prefix
+
+-- the entries of chosen keys whose route is chosen
+abbrev pub is_chosen_entry : Choices → RouteKey × Route → Bool
+is_chosen_entry choices e = is_chosen_route choices.routes e.1 && chooses choices.prefixes e.0
+
+abbrev pub chosen_entries : Choices → List (RouteKey × Route) → List (RouteKey × Route)
+chosen_entries choices table = filter (is_chosen_entry choices) table
 
 -- the units that can concern a chosen prefix
 abbrev pub concerned : List PrefixChoice → List ReplayUnit → List ReplayUnit

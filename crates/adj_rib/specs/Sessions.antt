@@ -8,8 +8,8 @@ use Rattle.adj_rib.specs.declared.arrivals.Arrivals.{Arrivals}
 use Rattle.adj_rib.specs.declared.churn.Churn.{Churn}
 use Rattle.adj_rib.specs.Steps.{is_up, is_established, steps_of}
 use Rattle.adj_rib.specs.Tables.{table_of}
-use Rattle.peer_units.specs.Plain.{PrefixChoice}
-use Rattle.adj_rib.specs.Selecting.{chooses, selected_entries}
+use Rattle.peer_units.specs.Choices.{Choices}
+use Rattle.adj_rib.specs.Selecting.{chosen_entries}
 use Rattle.adj_rib.specs.Arrived.{arrivals_of}
 use Rattle.adj_rib.specs.Churns.{churn_of, damaged_of}
 
@@ -35,9 +35,9 @@ session_of units = record {
   spent = false;
 }
 
--- a session of which the routes of chosen prefixes are left
-abbrev pub chosen_session : List PrefixChoice → SessionState → SessionState
-chosen_session choices session = record session { table = selected_entries (chooses choices) session.table }
+-- a session of which the chosen routes of chosen prefixes are left
+abbrev pub chosen_session : Choices → SessionState → SessionState
+chosen_session choices session = record session { table = chosen_entries choices session.table }
 
 -- a session that stands for these units
 abbrev pub IsSessionOf : SessionState → List ReplayUnit → Type 0

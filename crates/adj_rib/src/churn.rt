@@ -3,7 +3,7 @@
 ghost use Rattle.std.specs.Prelude.{◌≡◌};
 ghost use Rattle.adj_rib.specs.Histories.{is_before};
 
-use crate::outcome::Outcome;
+use crate::outcome::{Outcome, What};
 
 /// Whether a time, in microseconds since 1970 UTC, is before this second.
 pub fn is_before(since: Option<u64>, time: u64) -> bool
@@ -44,6 +44,8 @@ pub struct Churn {
 impl Churn {
     ghost use Rattle.std.specs.Prelude.{◌≡◌, None, if◌then◌else◌};
     ghost use Rattle.adj_rib.specs.Applied.{counted, no_churn, timed};
+    ghost use Rattle.adj_rib.specs.Histories.{outcome_noted, with_outcomes};
+    ghost use Rattle.adj_rib.specs.Noting.{counted_this};
 
     /// Returns the churn of no unit.
     pub(crate) fn new() -> Churn
@@ -60,6 +62,46 @@ impl Churn {
             refused: 0,
             first: None,
             last: None,
+        }
+    }
+
+    /// Returns the counts before a unit of this time, if it is before this second, and otherwise those after it.
+    pub(crate) fn within(since: Option<u64>, time: u64, before: Churn, after: Churn) -> Churn
+        ensures { result ≡ if is_before since time then before else after }
+    {
+        if is_before(since, time) {
+            before
+        } else {
+            after
+        }
+    }
+
+    /// Counts what happened to a key, where it was announced or withdrawn.
+    #[inline(always)]
+    pub(crate) fn count_what(&mut self, what: What)
+        ensures { self.new ≡ counted_this (outcome_noted what) self.old }
+    {
+        match what {
+            What::New => self.count(Outcome::Added),
+            What::Changed => self.count(Outcome::Changed),
+            What::Same => self.count(Outcome::Same),
+            What::Gone => self.count(Outcome::Gone),
+            What::Void => self.count(Outcome::Void),
+            What::Lost => {}
+        }
+    }
+
+    /// Returns the same, with the counts of announcements and withdrawals of another one.
+    pub(crate) fn with_outcomes(self, other: Churn) -> Churn
+        ensures { result ≡ with_outcomes self other }
+    {
+        Churn {
+            added: other.added,
+            changed: other.changed,
+            same: other.same,
+            gone: other.gone,
+            void: other.void,
+            ..self
         }
     }
 

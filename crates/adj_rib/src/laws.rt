@@ -9,6 +9,7 @@ ghost use Rattle.adj_rib.specs.Steps.{Step, steps_of, is_established, is_up};
 ghost use Rattle.adj_rib.specs.Tables.{Holds, table_of};
 ghost use Rattle.peer_units.specs.Plain.{Unit as ReplayUnit, PrefixChoice as Choice};
 ghost use Rattle.adj_rib.specs.Sources.{ComesFrom, EndsRoutes};
+ghost use Rattle.peer_units.specs.Choices.{Choices, every_choice};
 ghost use Rattle.peer_units.specs.Selections.{concerns};
 ghost use Rattle.adj_rib.specs.Churns.{churn_of, outcomes_of};
 ghost use Rattle.adj_rib.specs.Histories.{chosen_notes, churn_within, unit_notes};
@@ -59,16 +60,16 @@ pub fn early_is_late()
 /// A unit that can't concern a chosen prefix does nothing to the keys of these, and makes no difference to what later
 /// units do to them.
 pub fn notes_are_of_concerned()
-    ensures others { (choices : List Choice) (before : List ReplayUnit) (unit : ReplayUnit) →
-        concerns choices unit.payload ≡ false → chosen_notes choices (unit_notes before unit) ≡ [] }
-    ensures early { (choices : List Choice) (before : List ReplayUnit) (unit : ReplayUnit) →
-        chosen_notes choices (unit_notes (concerned choices before) unit)
+    ensures others { (choices : Choices) (before : List ReplayUnit) (unit : ReplayUnit) →
+        concerns choices.prefixes unit.payload ≡ false → chosen_notes choices (unit_notes before unit) ≡ [] }
+    ensures early { (choices : Choices) (before : List ReplayUnit) (unit : ReplayUnit) →
+        chosen_notes choices (unit_notes (concerned choices.prefixes before) unit)
         ≡ chosen_notes choices (unit_notes before unit) }
 {}
 
-/// Where no second and no prefix is named, what is counted by notes is what is counted of all units by their steps.
+/// Where neither a second nor prefixes nor routes are named, what is counted by notes is what is counted by steps.
 pub fn counts_are_of_all_units()
-    ensures { (units : List ReplayUnit) → churn_within None [] units ≡ churn_of units }
+    ensures { (units : List ReplayUnit) → churn_within None every_choice units ≡ churn_of units }
 {}
 
 /// Where state changes are taken as they are recorded, one is a break unless both its states are Established; after one

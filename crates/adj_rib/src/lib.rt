@@ -20,11 +20,14 @@
 //!   turns; in loops of their own the misses overlap. Prefetching has no contract and needs none.
 //! - An announcement descends the map once: what `insert` returns shows whether the key was new, changed or the same.
 //! - An entry of a peer that isn't up is read too, since a damaged one is listed.
-//! - `retain` takes the routes of other prefixes out of a table before a report. It is the last step, since the session
-//!   then no longer stands for its units.
+//! - `retain` leaves the chosen routes of chosen prefixes in a table before a report. It makes the table anew of the
+//!   keys that stay, and tests each route once, by its number. It is the last step, since the session then no longer
+//!   stands for its units.
 //! - A `Watch` takes units as a session does, keeps the routes of chosen keys alone (`Chooses`), and tells `Notes` what
 //!   each unit does to them, in the order of its steps, with the route itself and not its number: what the table no
-//!   longer names is given back. A session chooses every key and notes nothing, which costs it nothing.
+//!   longer names is given back. What isn't about a chosen route is neither counted nor passed on (`ChosenNotes`), but
+//!   such a route is kept all the same: it may be the one before a chosen one. A session chooses every key and notes
+//!   nothing, which costs it nothing.
 #![tactic(auto)]
 
 mod arrivals;
@@ -33,7 +36,6 @@ mod counted_table;
 mod laws;
 mod note;
 mod outcome;
-mod retaining;
 mod rib_in;
 mod route_table;
 mod routes;

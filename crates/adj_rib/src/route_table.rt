@@ -1,13 +1,15 @@
 //! A peer's table, whose keys have numbers of routes.
 
-ghost use Rattle.std.specs.Prelude.{◌≡◌, ◌≤◌, ◌+◌, ◌++◌, length, map, vec_len, vec_capacity, IfOk, IfSome, IfNone, OnOk, is_some, if◌then◌else◌};
+ghost use Rattle.std.specs.Prelude.{◌≡◌, ◌≤◌, ◌+◌, ◌++◌, length, map, vec_len, vec_capacity, IfOk, IfSome, IfNone, OnOk, None, is_some, if◌then◌else◌};
 ghost use Rattle.std.specs.List.{All, fold};
 ghost use Rattle.bgp_prefix.specs.Maps.{IsLongestMatch, HasNoMatch, paths_of};
 ghost use Rattle.std.specs.Option.{option_map};
 ghost use Rattle.std.specs.FinMap as finite;
 ghost use Rattle.bgp_update.specs.Packing.{unpacked};
 ghost use Rattle.adj_rib.specs.declared.routes.RouteId.{RouteId as Id};
-ghost use Rattle.adj_rib.specs.Routes.{AreNamed, IsNamed, named_routes, route_at, routes_now};
+ghost use Rattle.route_choice.specs.Choices.{is_chosen_route};
+ghost use Rattle.adj_rib.specs.Selecting.{chosen_entries, is_chosen_entry};
+ghost use Rattle.adj_rib.specs.Routes.{AreFound, AreNamed, IsNamed, named_routes, route_at, routes_now};
 ghost use Rattle.adj_rib.specs.MappedValues.{put_entry};
 ghost use Rattle.adj_rib.specs.declared.outcome.Outcome.TheVariants.{Gone, Void};
 ghost use Rattle.adj_rib.specs.Steps.{announce, withdraw};
@@ -21,6 +23,8 @@ use crate::outcome::{Outcome, What};
 use crate::routes::{RouteId, Routes};
 use bgp_prefix::{Memory, Prefix, PrefixMap, RouteKey};
 use bgp_update::{HashedRoute, RouteRef, RouteSpan, Unicast};
+use peer_units::Chosen;
+use route_choice::ChosenRoutes;
 use std::alloc::Global;
 use std::marker::Model;
 
@@ -85,7 +89,14 @@ fn put_route<F: Unicast, M: PrefixMap<RouteId, Addr = F>, N: Notes<F>>(
     let old = table.insert(alloc, &key, id)?;
     let outcome = outcome_over(routes, old, id);
     churn.count(outcome);
-    notes.note(alloc, outcome.what(), &key, &Some(routes.route(id)))?;
+    let before = route_of(routes, old);
+    notes.note(
+        alloc,
+        outcome.what(),
+        &key,
+        &Some(routes.route(id)),
+        &before,
+    )?;
     Ok(())
 }
 
@@ -125,7 +136,8 @@ fn note_lost<F: Unicast, N: Notes<F>>(
     ensures { OnOk result (N.kept notes.new ≡ fold N.keep (N.kept notes.old) (map lost_note entries.now)) }
 {
     for (key, route) in entries {
-        notes.note(alloc, What::Lost, key, &Some(route.same()))?;
+        let lost = Some(route.same());
+        notes.note(alloc, What::Lost, key, &lost, &lost)?;
     }
     Ok(())
 }
@@ -195,6 +207,111 @@ fn move_listed<F: Unicast, M: PrefixMap<RouteId, Addr = F> + Drop>(
         moved.insert(alloc, &key, new_id)?;
     }
     Ok((kept, moved))
+}
+
+/// Returns room for what is found of routes by their numbers, which are below this. Nothing is found yet.
+fn none_found(alloc: Global, numbers: usize) -> Result<Vec<Option<bool>>, Memory>
+    ensures { IfOk result (λ found. All (λ known. known ≡ None) found.items) }
+{
+    let found = vec![in alloc; None; numbers]?;
+    Ok(found)
+}
+
+/// Whether the route of a number is chosen: what was found of it before, or what is found now.
+fn is_id_chosen(
+    chosen: &ChosenRoutes,
+    routes: &Routes,
+    found: &mut Vec<Option<bool>>,
+    id: RouteId,
+) -> bool
+    requires named { IsNamed routes.now id.at }
+    requires found { AreFound chosen.now routes.now found.old.items }
+    ensures chosen { result ≡ is_chosen_route chosen.now (route_at routes.now id.at) }
+    ensures found { AreFound chosen.now routes.now found.new.items }
+{
+    let at = id.at as usize;
+    if let Some(cell) = found.get(at) {
+        if let Some(known) = *cell {
+            return known;
+        }
+    }
+    let answer = chosen.is_chosen(&routes.route(id));
+    if at < found.len() {
+        found[at] = Some(answer);
+    }
+    answer
+}
+
+/// Whether a key and the route of its number are chosen.
+fn is_entry_chosen<F: Unicast>(
+    chosen: &Chosen<F>,
+    routes: &Routes,
+    found: &mut Vec<Option<bool>>,
+    key: &RouteKey<Prefix<F>>,
+    id: RouteId,
+) -> bool
+    requires named { IsNamed routes.now id.at }
+    requires found { AreFound chosen.now.routes routes.now found.old.items }
+    ensures chosen { result ≡ is_chosen_entry chosen.now (key.now, route_at routes.now id.at) }
+    ensures found { AreFound chosen.now.routes routes.now found.new.items }
+{
+    is_id_chosen(chosen.routes(), routes, found, id) && chosen.prefixes().takes(&key.prefix)
+}
+
+/// Adds a key with the number of its route, if it is chosen.
+fn keep_if<F: Unicast, M: PrefixMap<RouteId, Addr = F>>(
+    alloc: Global,
+    is_chosen: bool,
+    kept: &mut M,
+    key: &RouteKey<Prefix<F>>,
+    id: RouteId,
+) -> Result<(), Memory>
+    ensures { OnOk result (M.contents kept.new
+        ≡ (if is_chosen then finite.insert (M.contents kept.old) key.now id else M.contents kept.old)) }
+{
+    if is_chosen {
+        kept.insert(alloc, key, id)?;
+    }
+    Ok(())
+}
+
+/// Returns a table of the listed numbers whose keys and routes are chosen. Each route is tested once, however many keys
+/// have it.
+fn keep_listed<F: Unicast, M: PrefixMap<RouteId, Addr = F> + Drop>(
+    alloc: Global,
+    chosen: &Chosen<F>,
+    routes: &Routes,
+    listed: &[(RouteKey<Prefix<F>>, &RouteId)],
+) -> Result<M, Memory>
+    requires { All (λ e. IsNamed routes.now e.1.now.at) listed.now }
+    ensures all { IfOk result (λ kept. AreNamed routes.now (M.contents kept)) }
+    ensures chosen { IfOk result (λ kept. named_routes routes.now (M.contents kept)
+        ≡ fold put_entry finite.empty (chosen_entries chosen.now (routes_now routes.now listed.now))) }
+{
+    let mut found = none_found(alloc, routes.len())?;
+    let mut kept = M::new(alloc);
+    for entry in listed {
+        let (key, id) = *entry;
+        let is_chosen = is_entry_chosen(chosen, routes, &mut found, &key, *id);
+        keep_if(alloc, is_chosen, &mut kept, &key, *id)?;
+    }
+    Ok(kept)
+}
+
+/// Returns a table of the numbers whose keys and routes are chosen.
+fn kept_chosen<F: Unicast, M: PrefixMap<RouteId, Addr = F> + Drop>(
+    alloc: Global,
+    chosen: &Chosen<F>,
+    routes: &Routes,
+    table: &M,
+) -> Result<M, Memory>
+    requires { AreNamed routes.now (M.contents table.now) }
+    ensures all { IfOk result (λ kept. AreNamed routes.now (M.contents kept)) }
+    ensures chosen { IfOk result (λ kept. finite.entries (named_routes routes.now (M.contents kept))
+        ≡ chosen_entries chosen.now (finite.entries (named_routes routes.now (M.contents table.now)))) }
+{
+    let listed = table.entries(alloc)?;
+    keep_listed(alloc, chosen, routes, listed.as_slice())
 }
 
 /// A peer's table, which contracts see as the map from keys to routes.
@@ -301,17 +418,8 @@ impl<F: Unicast, M: PrefixMap<RouteId, Addr = F>> RouteTable<M> {
         let outcome = outcome_without(old);
         churn.count(outcome);
         let route = route_of(&self.routes, old);
-        notes.note(alloc, outcome.what(), key, &route)?;
+        notes.note(alloc, outcome.what(), key, &route, &route)?;
         Ok(())
-    }
-
-    /// Removes a key, and returns whether it had a route.
-    #[inline(always)]
-    pub(crate) fn remove(&mut self, key: &RouteKey<Prefix<F>>) -> bool
-        ensures had { result ≡ is_some (finite.get self.old key.now) }
-        ensures removed { self.new ≡ finite.remove self.old key.now }
-    {
-        self.map.remove(key).is_some()
     }
 
     /// Removes every key.
@@ -328,7 +436,7 @@ impl<F: Unicast, M: PrefixMap<RouteId, Addr = F>> RouteTable<M> {
         ensures { OnOk result (N.kept notes.new
             ≡ fold N.keep (N.kept notes.old) (map lost_note (finite.entries self.now))) }
     {
-        if !notes.keeps() {
+        if !notes.keeps_losses() {
             return Ok(());
         }
         let entries = self.entries(alloc)?;
@@ -438,6 +546,14 @@ impl<F: Unicast, M: PrefixMap<RouteId, Addr = F> + Drop> RouteTable<M> {
         if some {
             self.renewals = u64::MAX;
         }
+    }
+
+    /// Removes the keys that aren't chosen, and those whose route isn't. An `Err` changes nothing.
+    pub(crate) fn retain(&mut self, alloc: Global, chosen: &Chosen<F>) -> Result<(), Memory>
+        ensures { OnOk result (finite.entries self.new ≡ chosen_entries chosen.now (finite.entries self.old)) }
+    {
+        self.map = kept_chosen(alloc, chosen, &self.routes, &self.map)?;
+        Ok(())
     }
 
     /// Keeps the routes that the table names, and no others. An `Err` changes nothing.

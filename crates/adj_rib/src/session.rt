@@ -9,13 +9,12 @@ ghost use Rattle.peer_units.specs.Plain.{Unit as ReplayUnit};
 use crate::arrivals::Arrivals;
 use crate::churn::Churn;
 use crate::note::{EveryKey, NoNotes};
-use crate::retaining::retain_chosen;
 use crate::rib_in::RibIn;
 use crate::route_table::RouteTable;
 use crate::routes::RouteId;
 use bgp_prefix::{Memory, Prefix, PrefixMap};
 use bgp_update::{RouteSpan, Unicast};
-use peer_units::{ChosenPrefixes, Damage, DecodedEvents, EventRef, Place, UnitOf, clears_are_told};
+use peer_units::{Chosen, Damage, DecodedEvents, EventRef, Place, UnitOf, clears_are_told};
 use std::alloc::Global;
 use std::marker::Model;
 
@@ -106,6 +105,14 @@ impl<F: Unicast, M: PrefixMap<RouteId, Addr = F> + Drop> Session<M> {
         }
     }
 
+    /// Removes the routes of prefixes that aren't chosen, and those that aren't chosen themselves. The session is for
+    /// reading then: it no longer stands for its units. After an `Err` the table is as it was.
+    pub fn retain(&mut self, alloc: Global, chosen: &Chosen<F>) -> Result<(), Memory>
+        ensures { OnOk result (self.new ≡ chosen_session chosen.now self.old) }
+    {
+        self.rib.counted.table.retain(alloc, chosen)
+    }
+
     /// Touches the slot of the peer's routes that `take_event` will probe for this route, so that its cache miss
     /// overlaps with others: a caller does this for several units first, and then `prefetch_route` for all of them. The
     /// result only keeps the read alive.
@@ -140,14 +147,6 @@ impl<F: Unicast, M: PrefixMap<RouteId, Addr = F>> Session<M> {
         ensures { finite.entries result.now ≡ self.now.table }
     {
         &self.rib.counted.table
-    }
-
-    /// Removes the routes of prefixes that aren't chosen. The session is for reading then: it no longer stands for its
-    /// units. After an `Err` the table is as it was.
-    pub fn retain(&mut self, alloc: Global, chosen: &ChosenPrefixes<F>) -> Result<(), Memory>
-        ensures { OnOk result (self.new ≡ chosen_session chosen.now self.old) }
-    {
-        retain_chosen(alloc, chosen, &mut self.rib.counted.table)
     }
 
     /// What the units did to the table.

@@ -5,39 +5,41 @@ ghost use Rattle.std.specs.List.{fold};
 ghost use Rattle.std.specs.FinMap as finite;
 ghost use Rattle.peer_units.specs.DecodedEvents.{event_of};
 ghost use Rattle.peer_units.specs.Events.{event_in};
-ghost use Rattle.peer_units.specs.Plain.{PrefixChoice as Choice};
+ghost use Rattle.peer_units.specs.Choices.{Choices as AnyChoices};
 ghost use Rattle.peer_units.specs.Plain.{Unit as ReplayUnit};
 ghost use Rattle.adj_rib.specs.Histories.{WatchesFor, chosen_notes, unit_notes};
 
 use crate::churn::Churn;
-use crate::note::Notes;
+use crate::note::{ChosenNotes, Notes};
 use crate::rib_in::RibIn;
 use crate::route_table::RouteTable;
 use crate::routes::RouteId;
 use bgp_prefix::{Memory, Prefix, PrefixMap};
 use bgp_update::Unicast;
-use peer_units::{ChosenPrefixes, Damage, EventRef, UnitRef};
+use peer_units::{Chosen, Damage, EventRef, UnitRef};
 use std::alloc::Global;
 use std::marker::Model;
 
 /// A peer of which chosen prefixes are watched: whether it is up, its routes of these prefixes, its damaged units, and
-/// what its units did, counted from a second on. It stands for the units that it took, with the choices and the second
-/// that it was passed each time.
+/// what its units did to chosen routes of them, counted from a second on. It stands for the units that it took, with
+/// the choices and the second that it was passed each time.
 #[derive(Drop)]
 pub struct Watch<M: PrefixMap<RouteId>> {
     rib: RibIn<M>,
+    /// The counts of announcements and withdrawals, as far as they are about chosen routes. The others mean nothing.
+    outcomes: Churn,
 }
 
 impl<M: PrefixMap<RouteId>> Model for Watch<M> {
     ghost use Rattle.std.specs.FinMap as finite;
-    ghost use Rattle.adj_rib.specs.Histories.{WatchState};
+    ghost use Rattle.adj_rib.specs.Histories.{WatchState, with_outcomes};
 
     ghost Value = { WatchState };
 
     ghost view = { λ w. record {
       up = w.rib.up;
       table = finite.entries w.rib.counted.table;
-      churn = w.rib.counted.churn;
+      churn = with_outcomes w.rib.counted.churn w.outcomes;
       faults = w.rib.faults.items;
     } };
 }
@@ -45,20 +47,21 @@ impl<M: PrefixMap<RouteId>> Model for Watch<M> {
 impl<F: Unicast, M: PrefixMap<RouteId, Addr = F> + Drop> Watch<M> {
     /// Returns the watch on a peer without units, which is up and has no routes. Allocates nothing.
     pub fn new(alloc: Global) -> Watch<M>
-        ensures { (since : Option ℕ) (choices : List Choice) → WatchesFor since choices [] result }
+        ensures { (since : Option ℕ) (choices : AnyChoices) → WatchesFor since choices [] result }
     {
         Watch {
             rib: RibIn::new(alloc),
+            outcomes: Churn::new(),
         }
     }
 
-    /// Takes the next unit, which means this, and notes what it does to keys of chosen prefixes. A damaged unit is
-    /// listed. The unit is counted unless it is before the second `since`, since 1970 UTC. After an `Err` the watch no
-    /// longer stands for units, and some of the notes may have been made.
+    /// Takes the next unit, which means this, and notes what it does to chosen routes of chosen prefixes. A damaged unit
+    /// is listed. The unit is counted unless it is before the second `since`, since 1970 UTC. After an `Err` the watch
+    /// no longer stands for units, and some of the notes may have been made.
     pub fn take<N: Notes<F>>(
         &mut self,
         alloc: Global,
-        chosen: &ChosenPrefixes<F>,
+        chosen: &Chosen<F>,
         since: Option<u64>,
         unit: &UnitRef<'_, F>,
         event: EventRef<'_, Prefix<F>>,
@@ -72,9 +75,22 @@ impl<F: Unicast, M: PrefixMap<RouteId, Addr = F> + Drop> Watch<M> {
             ≡ fold N.keep (N.kept notes.old) (chosen_notes chosen.now (unit_notes before unit.now))) }
     {
         let counted = self.rib.counted.churn;
-        self.rib
-            .take(alloc, chosen, notes, unit.place, unit.time, event)?;
+        let mut chosen_notes = ChosenNotes {
+            routes: chosen.routes(),
+            churn: self.outcomes,
+            notes,
+        };
+        self.rib.take(
+            alloc,
+            chosen.prefixes(),
+            &mut chosen_notes,
+            unit.place,
+            unit.time,
+            event,
+        )?;
+        let outcomes = chosen_notes.churn;
         self.rib.count_within(since, unit.time, counted);
+        self.outcomes = Churn::within(since, unit.time, self.outcomes, outcomes);
         Ok(())
     }
 }
@@ -98,7 +114,7 @@ impl<F: Unicast, M: PrefixMap<RouteId, Addr = F>> Watch<M> {
     pub fn churn(&self) -> Churn
         ensures { result ≡ self.now.churn }
     {
-        self.rib.counted.churn
+        self.rib.counted.churn.with_outcomes(self.outcomes)
     }
 
     /// The damaged units, in the order in which they were taken.

@@ -1,1 +1,2 @@
 pub mod FilesTaken
+pub mod CountedRoutes

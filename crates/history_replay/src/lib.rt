@@ -4,5 +4,5 @@
 mod history;
 mod told;
 
-pub use history::{History, count_faults, count_routes, list_history};
+pub use history::{History, count_faults, list_history};
 pub use told::Told;

@@ -3,7 +3,7 @@
 ghost use Rattle.std.specs.Prelude.{◌≡◌, [], ◌∷◌, ◌++◌, IfErr, IfOk, List, OnOk, length, map};
 ghost use Rattle.std.specs.List.{filter_map};
 ghost use Rattle.mrt_body.specs.Units.{damage_of, unit_of};
-ghost use Rattle.peer_units.specs.Plain.{PrefixChoice as Choice};
+ghost use Rattle.peer_units.specs.Choices.{Choices as AnyChoices};
 ghost use Rattle.mrt_frame.specs.declared.read_state.ReadState.TheVariants.{Reading};
 ghost use Rattle.peer_units.specs.declared.unit.Damage.{Damage as AnyDamage};
 ghost use Rattle.peer_units.specs.Plain.{Unit as ReplayUnit};
@@ -17,7 +17,7 @@ use bgp_update::Unicast;
 use mrt_body::Units;
 use mrt_frame::{ReplayError, Source};
 use peer_tables::{HistoryRows, Listing, Watches};
-use peer_units::{ChosenPrefixes, Damage, Found, FoundOf, UnitRef};
+use peer_units::{Chosen, Damage, Found, FoundOf, UnitRef};
 use std::alloc::Global;
 
 /// What a replay of files into rows leaves: the watches on all peers, the rows, the refusals, and how many units there
@@ -38,7 +38,7 @@ impl<F: Unicast, M: PrefixMap<RouteId, Addr = F> + Drop> Told<M> {
 
     /// Before the first unit.
     pub fn new(alloc: Global) -> Result<Told<M>, Memory>
-        ensures { IfOk result (λ told. (choices : List Choice) (listing : AnyListing) → Tells choices listing told [] []) }
+        ensures { IfOk result (λ told. (choices : AnyChoices) (listing : AnyListing) → Tells choices listing told [] []) }
     {
         Ok(Told {
             watches: Watches::new(alloc)?,
@@ -52,7 +52,7 @@ impl<F: Unicast, M: PrefixMap<RouteId, Addr = F> + Drop> Told<M> {
     fn take_unit(
         &mut self,
         alloc: Global,
-        chosen: &ChosenPrefixes<F>,
+        chosen: &Chosen<F>,
         listing: Listing,
         unit: &UnitRef<'_, F>,
     ) -> Result<(), Memory>
@@ -67,7 +67,7 @@ impl<F: Unicast, M: PrefixMap<RouteId, Addr = F> + Drop> Told<M> {
 
     /// Lists the next refusal.
     fn list_refusal(&mut self, damage: Damage) -> Result<(), Memory>
-        ensures { (choices : List Choice) (listing : AnyListing) (units : List ReplayUnit) (refused : List AnyDamage) →
+        ensures { (choices : AnyChoices) (listing : AnyListing) (units : List ReplayUnit) (refused : List AnyDamage) →
             Tells choices listing self.old units refused →
             OnOk result (Tells choices listing self.new units (refused ++ damage ∷ [])) }
     {
@@ -79,7 +79,7 @@ impl<F: Unicast, M: PrefixMap<RouteId, Addr = F> + Drop> Told<M> {
     fn take(
         &mut self,
         alloc: Global,
-        chosen: &ChosenPrefixes<F>,
+        chosen: &Chosen<F>,
         listing: Listing,
         found: FoundOf<F>,
     ) -> Result<(), Memory>
@@ -105,7 +105,7 @@ pub fn tell<F, M, R>(
     alloc: Global,
     units: &mut Units<F>,
     files: &mut [R],
-    chosen: &ChosenPrefixes<F>,
+    chosen: &Chosen<F>,
     listing: Listing,
     told: &mut Told<M>,
 ) -> Result<(), ReplayError>

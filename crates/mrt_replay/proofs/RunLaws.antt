@@ -10,14 +10,13 @@ use Rattle.mrt_frame.specs.Devices.{CountsFailure, HasFailed}
 use Rattle.mrt_frame.specs.Writes.{WritesFront}
 use Rattle.mrt_frame.specs.declared.error.ReplayError.{ReplayError}
 use Rattle.mrt_frame.specs.declared.error.ReplayError.TheVariants as errors
-use Rattle.peer_units.specs.Choices.{UnitSelection}
+use Rattle.peer_units.specs.Choices.{Choices, UnitSelection, choices_of}
 use Rattle.peer_units.specs.declared.unit.Damage.{Damage}
 use Rattle.peer_units.specs.Plain.{Unit as ReplayUnit}
 use Rattle.mrt_body.specs.Units.{units_of, refused_of}
 use Rattle.adj_rib.specs.Churns.{stopped}
 use Rattle.peer_tables.specs.declared.history.Listing.{Listing}
 use Rattle.peer_tables.specs.Peers.{peers_of}
-use Rattle.peer_units.specs.Plain.{PrefixChoice}
 use Rattle.peer_tables.specs.Tables.{Seat, TablesState, tables_of, chosen_seat, chosen_tables, all_faults, all_routes}
 use Rattle.rib_report.specs.Reports.{place_cmp, placed, in_place_order}
 use Rattle.report_request.specs.Plain.{Layout, Request}
@@ -32,10 +31,10 @@ abbrev of_files : UnitSelection → List (List ℕ) → TablesState
 of_files selection files = tables_of (units_of selection files) (refused_of selection files)
 
 -- the lines on tables that stand for the files are the report
-pub lines_are_report : (request : Request) (layout : Layout) (selection : UnitSelection) (files : List (List ℕ)) (tables : TablesState) → listing_of request selection.prefixes ≡ None → tables ≡ chosen_tables selection.prefixes (tables_of (units_of selection files) (refused_of selection files)) → lines_of request layout tables ≡ report request layout selection files
+pub lines_are_report : (request : Request) (layout : Layout) (selection : UnitSelection) (files : List (List ℕ)) (tables : TablesState) → listing_of request (choices_of selection) ≡ None → tables ≡ chosen_tables (choices_of selection) (tables_of (units_of selection files) (refused_of selection files)) → lines_of request layout tables ≡ report request layout selection files
 unfolding report text
 lines_are_report request layout selection files tables none stands =
-    ap (lines_of request layout) stands ∙ sym (ap (λ (l : Option Listing). text_by l request layout selection.prefixes (units_of selection files) (refused_of selection files)) none)
+    ap (lines_of request layout) stands ∙ sym (ap (λ (l : Option Listing). text_by l request layout (choices_of selection) (units_of selection files) (refused_of selection files)) none)
 
 -- ---- counts
 
@@ -51,20 +50,20 @@ pub length_in_order : (ds : List Damage) → length (in_place_order ds) ≡ leng
 length_in_order [] = refl
 length_in_order (d ∷ ds) = let later = length_in_order ds in omega (arith, length_placed d (in_place_order ds), later)
 
-same_faults : (choices : List PrefixChoice) (seats : List Seat) → flat_map (λ s. s.session.faults) (map (chosen_seat choices) seats) ≡ flat_map (λ s. s.session.faults) seats
+same_faults : (choices : Choices) (seats : List Seat) → flat_map (λ s. s.session.faults) (map (chosen_seat choices) seats) ≡ flat_map (λ s. s.session.faults) seats
 same_faults choices [] = refl
 same_faults choices (s ∷ seats) = ap (λ l. s.session.faults ++ l) (same_faults choices seats)
 
-pub damaged_counted : (selection : UnitSelection) (files : List (List ℕ)) (tables : TablesState) (n : ℕ) → tables ≡ chosen_tables selection.prefixes (tables_of (units_of selection files) (refused_of selection files)) → n ≡ min (length (all_faults tables)) (2 ^ 64 - 1) → n ≡ stopped (length (listed_faults selection files))
+pub damaged_counted : (selection : UnitSelection) (files : List (List ℕ)) (tables : TablesState) (n : ℕ) → tables ≡ chosen_tables (choices_of selection) (tables_of (units_of selection files) (refused_of selection files)) → n ≡ min (length (all_faults tables)) (2 ^ 64 - 1) → n ≡ stopped (length (listed_faults selection files))
 damaged_counted selection files tables n stands count =
     count ∙ ap (λ t. stopped (length (all_faults t))) stands
-    ∙ ap (λ l. stopped (length ((of_files selection files).refused ++ l))) (same_faults selection.prefixes (of_files selection files).seats)
+    ∙ ap (λ l. stopped (length ((of_files selection files).refused ++ l))) (same_faults (choices_of selection) (of_files selection files).seats)
     ∙ ap stopped (sym (length_in_order (all_faults (tables_of (units_of selection files) (refused_of selection files)))))
 
-pub routes_counted : (selection : UnitSelection) (files : List (List ℕ)) (tables : TablesState) (n : ℕ) → tables ≡ chosen_tables selection.prefixes (tables_of (units_of selection files) (refused_of selection files)) → n ≡ min (length (all_routes tables)) (2 ^ 64 - 1) → n ≡ stopped (length (all_routes (chosen_tables selection.prefixes (tables_of (units_of selection files) (refused_of selection files)))))
+pub routes_counted : (selection : UnitSelection) (files : List (List ℕ)) (tables : TablesState) (n : ℕ) → tables ≡ chosen_tables (choices_of selection) (tables_of (units_of selection files) (refused_of selection files)) → n ≡ min (length (all_routes tables)) (2 ^ 64 - 1) → n ≡ stopped (length (all_routes (chosen_tables (choices_of selection) (tables_of (units_of selection files) (refused_of selection files)))))
 routes_counted selection files tables n stands count = count ∙ ap (λ t. stopped (length (all_routes t))) stands
 
-pub peers_counted : (choices : List PrefixChoice) (units : List ReplayUnit) (refused : List Damage) (tables : TablesState) (n : ℕ) → tables ≡ chosen_tables choices (tables_of units refused) → n ≡ length tables.seats → n ≡ length (peers_of units)
+pub peers_counted : (choices : Choices) (units : List ReplayUnit) (refused : List Damage) (tables : TablesState) (n : ℕ) → tables ≡ chosen_tables choices (tables_of units refused) → n ≡ length tables.seats → n ≡ length (peers_of units)
 unfolding tables_of
 peers_counted choices units refused tables n stands count = count ∙ ap (λ (t : TablesState). length t.seats) stands ∙ length-map (tables_of units refused).seats (chosen_seat choices) ∙ length-map (enumerate_from 0 (peers_of units)) _ ∙ length-enumerate_from 0 (peers_of units)
 

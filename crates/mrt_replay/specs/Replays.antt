@@ -6,7 +6,7 @@ use Rattle.peer_units.specs.Plain.{Unit as ReplayUnit}
 use Rattle.mrt_body.specs.Units.{units_of, refused_of, records_of, aside_of, unit_of}
 use Rattle.mrt_body.specs.ToCome.{UnitsState}
 use Rattle.peer_tables.specs.Tables.{tables_of, chosen_tables}
-use Rattle.peer_units.specs.Choices.{UnitSelection}
+use Rattle.peer_units.specs.Choices.{UnitSelection, choices_of}
 use Rattle.lane_deal.specs.declared.plan.Plan.{Plan}
 use Rattle.lane_deal.specs.Replayers.{ReplayerState, ReplayerStandsFor}
 use Rattle.lane_deal.specs.Rounds.{IsSettled}
@@ -38,11 +38,11 @@ pub record HasPlayed (dealing : ℕ → ℕ → ℕ) (plan : Plan) (before after
 
 -- ---- the whole replay
 
--- The tables stand for the units and refusals of the files, which are counted; the routes of chosen prefixes alone are
--- left.
+-- The tables stand for the units and refusals of the files, which are counted; the chosen routes of chosen prefixes alone
+-- are left.
 pub record IsReplayOf {M A : Type 0} (selection : UnitSelection) (plan : Plan) (files : List (List ℕ)) (r : Replayed M A) : Type 0 where
   pub stands : r.tables
-      ≡ chosen_tables selection.prefixes (tables_of (units_of selection files) (refused_of selection files))
+      ≡ chosen_tables (choices_of selection) (tables_of (units_of selection files) (refused_of selection files))
   pub records_counted : r.records ≡ records_of files
   pub units_counted : r.units ≡ length (units_of selection files)
   pub aside_counted : r.aside ≡ aside_of selection.rules.family files

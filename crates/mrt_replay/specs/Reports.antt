@@ -11,27 +11,26 @@ use Rattle.peer_tables.specs.declared.history.Listing.{Listing}
 use Rattle.peer_tables.specs.Histories.{PeerWatch, RowState, history_rows, watches_of}
 use Rattle.peer_tables.specs.Peers.{peers_of}
 use Rattle.peer_tables.specs.Tables.{TablesState, tables_of, chosen_tables, all_routes}
-use Rattle.peer_units.specs.Plain.{PrefixChoice}
 use Rattle.rib_report.specs.Reports.{route_rows, match_rows, visibility_rows, origin_rows, seen_rows, churn_rows, watch_churns, peer_rows, fault_rows}
 use Rattle.rib_report.specs.Lines.{route_line, visibility_line, origin_line, seen_line, churn_line, peer_line, fault_line}
 use Rattle.rib_report.specs.HistoryLines.{history_line}
-use Rattle.peer_units.specs.Choices.{UnitSelection, is_open}
+use Rattle.peer_units.specs.Choices.{Choices, UnitSelection, chooses_all, choices_of}
 use Rattle.lane_deal.specs.declared.plan.Plan.{Plan}
 use Rattle.report_request.specs.Plain.{Layout, Request}
 use Rattle.report_request.specs.declared.request.Request.TheVariants as request
 use Rattle.replay_summary.specs.declared.summary.Summary.{Summary}
 
--- from when on what happened is counted, if a second or prefixes are named: otherwise the tables counted it
-abbrev pub counting_of : Option ℕ → List PrefixChoice → Option Listing
+-- from when on what happened is counted, if a second, prefixes or routes are named: otherwise the tables counted it
+abbrev pub counting_of : Option ℕ → Choices → Option Listing
 counting_of since choices =
-    if is_some since || not (is_open choices) then Some (record { since = since; listed = Nothing }) else None
+    if is_some since || not (chooses_all choices) then Some (record { since = since; listed = Nothing }) else None
 
 -- what a history lists: announcements of the route that was there only if they are asked for
 abbrev pub listed_by : Bool → Listed
 listed_by same = if same then All else Changes
 
 -- which of the things that happened are asked for, if a history is asked for, or counts of a part of them
-abbrev pub listing_of : Request → List PrefixChoice → Option Listing
+abbrev pub listing_of : Request → Choices → Option Listing
 listing_of request.Tables choices = None
 listing_of request.Visibility choices = None
 listing_of request.Origins choices = None
@@ -61,21 +60,21 @@ told_lines layout Nothing rows watches = flat_map (churn_line layout) (watch_chu
 told_lines layout Changes rows watches = flat_map (history_line layout) rows
 told_lines layout All rows watches = flat_map (history_line layout) rows
 
--- the lines of what happened to chosen prefixes, in the order of units, or of its counts, or of the rows on the tables
--- that the units leave
-abbrev pub text_by : Option Listing → Request → Layout → List PrefixChoice → List ReplayUnit → List Damage → List ℕ
+-- the lines of what happened to chosen prefixes and their chosen routes, in the order of units, or of its counts, or of
+-- the rows on the tables that the units leave
+abbrev pub text_by : Option Listing → Request → Layout → Choices → List ReplayUnit → List Damage → List ℕ
 text_by None request layout choices units refused = lines_of request layout (chosen_tables choices (tables_of units refused))
 text_by (Some listing) request layout choices units refused =
     told_lines layout listing.listed (history_rows listing choices units) (watches_of listing.since choices units)
 
--- the text of a request, in a layout, about the chosen prefixes of units, and about refusals
-unfoldable pub text : Request → Layout → List PrefixChoice → List ReplayUnit → List Damage → List ℕ
+-- the text of a request, in a layout, about the chosen prefixes and routes of units, and about refusals
+unfoldable pub text : Request → Layout → Choices → List ReplayUnit → List Damage → List ℕ
 text request layout choices units refused = text_by (listing_of request choices) request layout choices units refused
 
 -- the report on files, in a layout, of a selection: workers, ring, batch, looks and dealing have no part in it
 unfoldable pub report : Request → Layout → UnitSelection → List (List ℕ) → List ℕ
 report request layout selection files =
-    text request layout selection.prefixes (units_of selection files) (refused_of selection files)
+    text request layout (choices_of selection) (units_of selection files) (refused_of selection files)
 
 -- all faults that are listed
 abbrev pub listed_faults : UnitSelection → List (List ℕ) → List Damage
@@ -100,6 +99,6 @@ pub record IsSummary (request : Request) (selection : UnitSelection) (plan : Pla
   pub damaged : s.damaged ≡ stopped (length (listed_faults selection files))
   pub peers : s.peers ≡ length (peers_of (units_of selection files))
   pub routes : s.routes
-      ≡ stopped (length (all_routes (chosen_tables selection.prefixes
+      ≡ stopped (length (all_routes (chosen_tables (choices_of selection)
       (tables_of (units_of selection files) (refused_of selection files)))))
-  pub rounds : RoundsOf (listing_of request selection.prefixes) plan s
+  pub rounds : RoundsOf (listing_of request (choices_of selection)) plan s

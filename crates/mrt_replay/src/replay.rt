@@ -8,6 +8,7 @@ ghost use Rattle.mrt_frame.specs.declared.error.ReplayError.TheVariants as error
 ghost use Rattle.lane_deal.specs.Plans.{IsPlan};
 ghost use Rattle.mrt_replay.specs.Headline.{IsPromised, run_on};
 ghost use Rattle.mrt_replay.specs.Reports.{counting_of, lines_of, listed_by, listing_of, told_lines};
+ghost use Rattle.peer_units.specs.Choices.{choices_of};
 ghost use Rattle.report_request.specs.Requests.{request_of};
 
 use crate::idle::{idle_of_tables, idle_of_watches};
@@ -15,11 +16,11 @@ use crate::replayed::replay;
 use adj_rib::RouteId;
 use bgp_prefix::{Family, PrefixMap};
 use bgp_update::Unicast;
-use history_replay::{Told, count_faults, count_routes, list_history};
+use history_replay::{Told, count_faults, list_history};
 use lane_deal::{Dealing, Gate, Plan};
 use mrt_frame::{ReplayError, Sink, Source};
 use peer_tables::{Listed, Listing, Watched};
-use peer_units::{ChosenPrefixes, Damage, Selection};
+use peer_units::{Chosen, Damage, Selection};
 use replay_summary::Summary;
 use report_request::{LayoutOf, Request};
 use rib_report::{
@@ -80,7 +81,7 @@ where
     // Any error except the writer's leaves it untouched.
     ensures untouched { IfErr result (λ e. (e ≡ errors.Write → ⊥) → out.new ≡ out.old) }
 {
-    match listing_of(request, selection.prefixes()) {
+    match listing_of(request, selection.chosen()) {
         Some(listing) => run_history::<F, M, R, W, G>(
             alloc, files, request, layout, listing, selection, plan, gate, out,
         ),
@@ -90,8 +91,8 @@ where
     }
 }
 
-/// Returns from when on what happened is counted, if a second or prefixes are named.
-fn counting_of<F: Family>(since: Option<u64>, chosen: &ChosenPrefixes<F>) -> Option<Listing>
+/// Returns from when on what happened is counted, if a second, prefixes or routes are named.
+fn counting_of<F: Family>(since: Option<u64>, chosen: &Chosen<F>) -> Option<Listing>
     ensures { result ≡ counting_of since chosen.now }
 {
     if since.is_some() || !chosen.is_open() {
@@ -111,7 +112,7 @@ fn listed_by(same: bool) -> Listed
 }
 
 /// Returns which of the things that happened are asked for, if a history is, or counts of a part of them.
-fn listing_of<F: Family>(request: &Request<F>, chosen: &ChosenPrefixes<F>) -> Option<Listing>
+fn listing_of<F: Family>(request: &Request<F>, chosen: &Chosen<F>) -> Option<Listing>
     ensures { result ≡ listing_of (request_of F.bits request.now) chosen.now }
 {
     match request {
@@ -152,7 +153,7 @@ fn run_on_tables<
     out: &mut W,
 ) -> Result<Summary, ReplayError>
     requires plan { IsPlan plan.now }
-    requires tables { listing_of (request_of F.bits request.now) selection.prefixes ≡ None }
+    requires tables { listing_of (request_of F.bits request.now) (choices_of selection) ≡ None }
     ensures promised { IsPromised (run_on R.remaining R.failure_count W.contents W.failure_count W.is_flushed
         (request_of F.bits request.now) layout selection plan.now files.old files.new out.old out.new result) }
     ensures untouched { IfErr result (λ e. (e ≡ errors.Write → ⊥) → out.new ≡ out.old) }
@@ -206,7 +207,7 @@ where
     W: Sink,
     G: Gate + Sync,
     requires plan { IsPlan plan.now }
-    requires history { listing_of (request_of F.bits request.now) selection.prefixes ≡ Some listing }
+    requires history { listing_of (request_of F.bits request.now) (choices_of selection) ≡ Some listing }
     ensures promised { IsPromised (run_on R.remaining R.failure_count W.contents W.failure_count W.is_flushed
         (request_of F.bits request.now) layout selection plan.now files.old files.new writer.old writer.new result) }
     ensures untouched { IfErr result (λ e. (e ≡ errors.Write → ⊥) → writer.new ≡ writer.old) }
@@ -237,7 +238,7 @@ where
         damaged: count_faults(refused.len() as u64, watches),
         rounds: 0,
         peers: watches.len(),
-        routes: count_routes(watches),
+        routes: history.routes,
         idle: idle_of_watches(watches),
         remarks: history.remarks,
     };

@@ -86,7 +86,7 @@ where
     }
 }
 
-/// Replays the files in order into one table per peer, of which the routes of chosen prefixes are left.
+/// Replays the files in order into one table per peer, of which the chosen routes of chosen prefixes are left.
 pub fn replay<F, M, T, R, D, G>(
     rt: &T,
     alloc: Global,
@@ -114,7 +114,7 @@ where
         (StopsReplay plan.now.max_records (map R.remaining files.old) (map R.failure_count files.old)
         (map R.failure_count files.new)) }
 {
-    let chosen = selection.prefixes().copied(alloc)?;
+    let chosen = selection.chosen().copied(alloc)?;
     let mut units = Units::new(alloc, files.len(), plan.max_records, selection);
     let mut replayer = Replayer::<M, &D>::new(alloc, *plan, dealing)?;
     if let Err(error) = play(rt, alloc, &mut units, files, &mut replayer, gate) {

@@ -18,7 +18,7 @@ module _ (before after : List ℕ) (stays : StaysNamed before after) where
   same_row : (row : StoredRow IpPrefix) → IsStored before row → row_in after row ≡ row_in before row
   same_row (Routed by what key route time peer) h = ap (λ (r : Route). row_in_of r) (stays route.at h).1 where
     row_in_of : Route → RowState
-    row_in_of r = record { time = time; peer = peer; by = by; note = record { what = what; key = key; route = Some r } }
+    row_in_of r = record { time = time; peer = peer; by = by; what = what; key = key; route = Some r }
   same_row (Routeless by what key time peer) h = refl
 
   pub all_stored : (rows : List (StoredRow IpPrefix)) → All (IsStored before) rows → All (IsStored after) rows

@@ -9,12 +9,11 @@ use Rattle.std.proofs.lemmas.List.Elements.{filter-append}
 use Rattle.std.proofs.lemmas.List.Folds.{list_any-append}
 use Rattle.mrt_frame.specs.Positions.{flat_map_after}
 use Rattle.mrt_frame.proofs.PositionLaws.{flat_map_after-push}
-use Rattle.peer_units.specs.Plain.{PrefixChoice}
+use Rattle.peer_units.specs.Choices.{Choices}
 use Rattle.peer_units.specs.declared.unit.PeerKey.{PeerKey}
 use Rattle.peer_units.specs.Plain.{Unit as ReplayUnit}
 use Rattle.adj_rib.specs.Plain.{Note}
-use Rattle.adj_rib.specs.Histories.{WatchState, is_before, watch_of, unit_notes, chosen_notes}
-use Rattle.adj_rib.specs.Selecting.{chooses}
+use Rattle.adj_rib.specs.Histories.{WatchState, is_before, is_chosen_note, watch_of, unit_notes, chosen_notes}
 use Rattle.peer_tables.specs.declared.history.Listing.{Listing}
 use Rattle.peer_tables.specs.Peers.{peer_eq, peers_of, units_of_peer}
 use Rattle.peer_tables.specs.declared.history.Listed.{Listed}
@@ -112,7 +111,7 @@ keys_push see (x ∷ xs) y q e = ap (λ (l : List PeerKey). (see x).key ∷ l) (
 
 -- ---- one unit more
 
-module _ (since : Option ℕ) (choices : List PrefixChoice) (before : List ReplayUnit) (u : ReplayUnit) where
+module _ (since : Option ℕ) (choices : Choices) (before : List ReplayUnit) (u : ReplayUnit) where
   abbrev after : List ReplayUnit
   after = before ++ u ∷ []
 
@@ -203,14 +202,14 @@ module _ (since : Option ℕ) (choices : List PrefixChoice) (before : List Repla
 
 -- ---- rows
 
-module _ (listing : Listing) (choices : List PrefixChoice) (u : ReplayUnit) where
+module _ (listing : Listing) (choices : Choices) (u : ReplayUnit) where
   abbrev each : Note → ReplayUnit × Note
   each note = (u, note)
 
   early_rows : (notes : List Note) → is_before listing.since u.time ≡ true → map row_of (filter (is_listed listing choices) (map each notes)) ≡ []
   early_rows [] e = refl
   early_rows (note ∷ notes) e =
-      ap (λ b. map row_of (cond (not b && (chooses choices note.key && is_asked listing.listed note.what)) (each note ∷ filter (is_listed listing choices) (map each notes)) (filter (is_listed listing choices) (map each notes)))) e
+      ap (λ b. map row_of (cond (not b && (is_chosen_note choices note && is_asked listing.listed note.what)) (each note ∷ filter (is_listed listing choices) (map each notes)) (filter (is_listed listing choices) (map each notes)))) e
       ∙ early_rows notes e
 
   chosen_rows : (notes : List Note) → is_before listing.since u.time ≡ false → map row_of (filter (is_listed listing choices) (map each notes)) ≡ asked_rows listing.listed u (chosen_notes choices notes)
@@ -218,8 +217,8 @@ module _ (listing : Listing) (choices : List PrefixChoice) (u : ReplayUnit) wher
   chosen_rows (note ∷ notes) e =
       let rest = filter (is_listed listing choices) (map each notes) in
       let more = chosen_rows notes e in
-      ap (λ b. map row_of (cond (not b && (chooses choices note.key && is_asked listing.listed note.what)) (each note ∷ rest) rest)) e
-      ∙ elim (chooses choices note.key) as (λ b. map row_of (cond (b && is_asked listing.listed note.what) (each note ∷ rest) rest) ≡ asked_rows listing.listed u (cond b (note ∷ chosen_notes choices notes) (chosen_notes choices notes))) [
+      ap (λ b. map row_of (cond (not b && (is_chosen_note choices note && is_asked listing.listed note.what)) (each note ∷ rest) rest)) e
+      ∙ elim (is_chosen_note choices note) as (λ b. map row_of (cond (b && is_asked listing.listed note.what) (each note ∷ rest) rest) ≡ asked_rows listing.listed u (cond b (note ∷ chosen_notes choices notes) (chosen_notes choices notes))) [
         | true ↦ elim (is_asked listing.listed note.what) as (λ b. map row_of (cond b (each note ∷ rest) rest) ≡ map (λ n. row_of (each n)) (cond b (note ∷ filter (λ n. is_asked listing.listed n.what) (chosen_notes choices notes)) (filter (λ n. is_asked listing.listed n.what) (chosen_notes choices notes)))) [
           | true ↦ ap (λ (l : List RowState). row_of (each note) ∷ l) more
           | false ↦ more
@@ -267,7 +266,7 @@ unit_kept listing u begun told notes unit kept =
     ap (λ (r : RowsState). r.listed) (kept ∙ kept_rows begun.unit begun.listed notes)
     ∙ ap (λ w. begun.listed ++ flat_map (asked_row w) notes) unit ∙ ap (λ l. begun.listed ++ l) (rows_of_unit listing u notes)
 
-pub rows_after : (listing : Listing) (choices : List PrefixChoice) (before : List ReplayUnit) (u : ReplayUnit) (rows told : List RowState) (notes : List Note) → notes ≡ chosen_notes choices (unit_notes (units_of_peer before u.peer) u) → told ≡ rows ++ listed_rows listing u notes → rows ≡ history_rows listing choices before
+pub rows_after : (listing : Listing) (choices : Choices) (before : List ReplayUnit) (u : ReplayUnit) (rows told : List RowState) (notes : List Note) → notes ≡ chosen_notes choices (unit_notes (units_of_peer before u.peer) u) → told ≡ rows ++ listed_rows listing u notes → rows ≡ history_rows listing choices before
     → told ≡ history_rows listing choices (before ++ u ∷ [])
 unfolding history_rows history_of
 rows_after listing choices before u rows told notes are more so_far =
@@ -303,6 +302,6 @@ key_there (w ∷ watches) zero k d e = some_is w.key k e
 key_there (w ∷ watches) (suc n) k d e = key_there watches n k d e
 
 -- no peer of no units has a watch
-pub watches_none : (since : Option ℕ) (choices : List PrefixChoice) → [] ≡ watches_of since choices []
+pub watches_none : (since : Option ℕ) (choices : Choices) → [] ≡ watches_of since choices []
 unfolding watches_of peers_of
 watches_none since choices = refl

@@ -2,7 +2,7 @@
 use Rattle.std.specs.Prelude.{ℕ, Bool, true, false, not, ◌&&◌, Option, List, [], map}
 use Rattle.std.specs.List.{filter}
 use Rattle.mrt_frame.specs.Positions.{flat_map_after}
-use Rattle.peer_units.specs.Plain.{PrefixChoice}
+use Rattle.peer_units.specs.Choices.{Choices}
 use Rattle.peer_units.specs.Plain.{Payload}
 use Rattle.peer_units.specs.declared.unit.Payload.TheVariants.{State, Message, Entry, Clear}
 use Rattle.peer_units.specs.declared.unit.PeerKey.{PeerKey}
@@ -10,8 +10,9 @@ use Rattle.peer_units.specs.Plain.{Unit as ReplayUnit}
 use Rattle.adj_rib.specs.Plain.{Note}
 use Rattle.adj_rib.specs.declared.outcome.What.{What}
 use Rattle.adj_rib.specs.declared.outcome.What.TheVariants.{New, Changed, Same, Gone, Void, Lost}
-use Rattle.adj_rib.specs.Histories.{WatchState, is_before, unit_notes, watch_of}
-use Rattle.adj_rib.specs.Selecting.{chooses}
+use Rattle.adj_rib.specs.Histories.{WatchState, is_before, is_chosen_note, unit_notes, watch_of}
+use Rattle.bgp_prefix.specs.Keys.{RouteKey}
+use Rattle.bgp_update.specs.declared.route.Route.{Route}
 use Rattle.bgp_prefix.specs.Prefixes.{IpPrefix}
 use Rattle.peer_tables.specs.declared.history.HistoryRow.{HistoryRow}
 use Rattle.peer_tables.specs.declared.history.By.{By}
@@ -51,15 +52,35 @@ pub record RowState : Type 0 where
   pub time : ℕ
   pub peer : PeerKey
   pub by : By
-  pub note : Note
+  pub what : What
+  pub key : RouteKey
+  pub route : Option Route
 
 -- a row as it is read
 abbrev pub row_state : HistoryRow IpPrefix → RowState
-row_state row = record { time = row.time; peer = row.peer; by = row.by; note = record { what = row.what; key = row.key; route = row.route } }
+row_state row = record {
+  time = row.time;
+  peer = row.peer;
+  by = row.by;
+  what = row.what;
+  key = row.key;
+  route = row.route;
+}
+
+-- the row of a note at a time on a peer
+abbrev pub noted_row : ℕ → PeerKey → By → Note → RowState
+noted_row time peer by note = record {
+  time = time;
+  peer = peer;
+  by = by;
+  what = note.what;
+  key = note.key;
+  route = note.route;
+}
 
 -- the row of what happened
 abbrev pub row_of : ReplayUnit × Note → RowState
-row_of e = record { time = e.0.time; peer = e.0.peer; by = by_of e.0.payload; note = e.1 }
+row_of e = noted_row e.0.time e.0.peer (by_of e.0.payload) e.1
 
 -- more than an announcement of the route that was there
 abbrev pub is_change : What → Bool
@@ -76,13 +97,13 @@ is_asked Nothing what = false
 is_asked Changes what = is_change what
 is_asked All what = true
 
--- what happened to a chosen key, from the first second on
-abbrev pub is_listed : Listing → List PrefixChoice → ReplayUnit × Note → Bool
+-- what happened to a chosen key, or to a chosen route of it, from the first second on
+abbrev pub is_listed : Listing → Choices → ReplayUnit × Note → Bool
 is_listed listing choices e =
-    not (is_before listing.since e.0.time) && (chooses choices e.1.key && is_asked listing.listed e.1.what)
+    not (is_before listing.since e.0.time) && (is_chosen_note choices e.1 && is_asked listing.listed e.1.what)
 
 -- The rows of units: lanes, rings and workers don't occur.
-unfoldable pub history_rows : Listing → List PrefixChoice → List ReplayUnit → List RowState
+unfoldable pub history_rows : Listing → Choices → List ReplayUnit → List RowState
 history_rows listing choices units = map row_of (filter (is_listed listing choices) (history_of units))
 
 -- ---- the watches on all peers
@@ -94,6 +115,6 @@ pub record PeerWatch : Type 0 where
 
 -- for each peer of the units, by first appearance, the watch that took the peer's own units, and counts from this
 -- second on
-unfoldable pub watches_of : Option ℕ → List PrefixChoice → List ReplayUnit → List PeerWatch
+unfoldable pub watches_of : Option ℕ → Choices → List ReplayUnit → List PeerWatch
 watches_of since choices units =
     map (λ q. record { key = q; watch = watch_of since choices (units_of_peer units q) }) (peers_of units)

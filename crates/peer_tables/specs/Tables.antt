@@ -7,7 +7,7 @@ use Rattle.bgp_update.specs.declared.route.Route.{Route}
 use Rattle.peer_units.specs.declared.unit.PeerKey.{PeerKey}
 use Rattle.peer_units.specs.declared.unit.Damage.{Damage}
 use Rattle.peer_units.specs.Plain.{Unit as ReplayUnit}
-use Rattle.peer_units.specs.Plain.{PrefixChoice}
+use Rattle.peer_units.specs.Choices.{Choices}
 use Rattle.adj_rib.specs.Sessions.{SessionState, session_of, chosen_session}
 use Rattle.peer_tables.specs.Peers.{peers_of, units_of_peer}
 
@@ -35,11 +35,11 @@ tables_of units refused = record {
   refused = refused;
 }
 
--- the tables of which the routes of chosen prefixes are left
-abbrev pub chosen_seat : List PrefixChoice → Seat → Seat
+-- the tables of which the chosen routes of chosen prefixes are left
+abbrev pub chosen_seat : Choices → Seat → Seat
 chosen_seat choices seat = record seat { session = chosen_session choices seat.session }
 
-abbrev pub chosen_tables : List PrefixChoice → TablesState → TablesState
+abbrev pub chosen_tables : Choices → TablesState → TablesState
 chosen_tables choices tables = record tables { seats = map (chosen_seat choices) tables.seats }
 
 -- all faults: the refusals, then each peer's

@@ -13,8 +13,8 @@ use Rattle.peer_tables.specs.declared.history.Listed.{Listed}
 use Rattle.peer_tables.specs.declared.history.Listing.{Listing}
 use Rattle.peer_tables.specs.declared.watches.Watched.{Watched}
 use Rattle.adj_rib.specs.Histories.{is_before}
-use Rattle.peer_units.specs.Plain.{PrefixChoice}
-use Rattle.peer_tables.specs.Histories.{PeerWatch, RowState, by_of, history_rows, is_asked, row_of, watches_of}
+use Rattle.peer_units.specs.Choices.{Choices}
+use Rattle.peer_tables.specs.Histories.{PeerWatch, RowState, by_of, history_rows, is_asked, noted_row, row_of, watches_of}
 
 -- a watch, as definitions see it
 abbrev pub watch_in : {M A : Type 0} → Watched M A → PeerWatch
@@ -27,9 +27,9 @@ keys_in watches = map (λ w. w.key) watches
 -- a row, by what is kept of it and the block of bytes in which its route is named
 abbrev pub row_in : List ℕ → StoredRow IpPrefix → RowState
 row_in block (Routed by what key route time peer) =
-    record { time = time; peer = peer; by = by; note = record { what = what; key = key; route = Some (route_at block route.at) } }
+    record { time = time; peer = peer; by = by; what = what; key = key; route = Some (route_at block route.at) }
 row_in block (Routeless by what key time peer) =
-    record { time = time; peer = peer; by = by; note = record { what = what; key = key; route = None } }
+    record { time = time; peer = peer; by = by; what = what; key = key; route = None }
 
 -- The number of a row's route names one.
 abbrev pub IsStored : List ℕ → StoredRow IpPrefix → Type 0
@@ -51,7 +51,7 @@ row_unit listing unit =
 abbrev pub asked_row : Option RowUnit → Note → List RowState
 asked_row None note = []
 asked_row (Some u) note =
-    if is_asked u.listed note.what then record { time = u.time; peer = u.peer; by = u.by; note = note } ∷ [] else []
+    if is_asked u.listed note.what then noted_row u.time u.peer u.by note ∷ [] else []
 
 -- the rows with one more note
 abbrev pub keep_row : RowsState → Note → RowsState
@@ -68,6 +68,6 @@ listed_rows listing unit notes =
 
 -- One more unit was taken. Watches that stood for the units before it stand for this one, too; and if rows were those
 -- of the units before it, they are those of this one, too.
-pub record TakesUnit (listing : Listing) (choices : List PrefixChoice) (old new : List PeerWatch) (told later : List RowState) (unit : ReplayUnit) : Type 0 where
+pub record TakesUnit (listing : Listing) (choices : Choices) (old new : List PeerWatch) (told later : List RowState) (unit : ReplayUnit) : Type 0 where
   pub stands : (before : List ReplayUnit) → old ≡ watches_of listing.since choices before → new ≡ watches_of listing.since choices (before ++ unit ∷ [])
   pub rows : (before : List ReplayUnit) → old ≡ watches_of listing.since choices before → told ≡ history_rows listing choices before → later ≡ history_rows listing choices (before ++ unit ∷ [])

@@ -134,7 +134,9 @@ fn stored_row<F: Unicast>(
       time = unit.now.time;
       peer = unit.now.peer;
       by = unit.now.by;
-      note = record { what = what; key = key.now; route = route.now };
+      what = what;
+      key = key.now;
+      route = route.now;
     }) }
     ensures stored { IfOk result (IsStored routes.new) }
     ensures stays { StaysNamed routes.old routes.new }
@@ -278,7 +280,7 @@ impl<F: Unicast> Notes<F> for HistoryRows<F> {
 
     ghost keep = { keep_row };
 
-    fn keeps(&self) -> bool {
+    fn keeps_losses(&self) -> bool {
         match &self.unit {
             Some(unit) => unit.listed != Listed::Nothing,
             None => false,
@@ -291,6 +293,7 @@ impl<F: Unicast> Notes<F> for HistoryRows<F> {
         what: What,
         key: &RouteKey<Prefix<F>>,
         route: &Option<RouteRef<'_>>,
+        _before: &Option<RouteRef<'_>>,
     ) -> Result<(), Memory> {
         let Some(unit) = &self.unit else {
             return Ok(());

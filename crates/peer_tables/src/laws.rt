@@ -1,7 +1,7 @@
 //! The laws of what tables stand for, of what happened at all peers, and of replays that take some of the peers.
 //! Nothing is computed.
 
-ghost use Rattle.std.specs.Prelude.{◌≡◌, IsPermutation, List, Bool, true};
+ghost use Rattle.std.specs.Prelude.{◌≡◌, IsPermutation, List, Bool, true, map};
 ghost use Rattle.peer_units.specs.declared.unit.Damage.{Damage as ListedFault};
 ghost use Rattle.peer_units.specs.Plain.{Unit as ReplayUnit};
 ghost use Rattle.peer_tables.specs.declared.tables.Gathered.{Gathered as LanesIn};
@@ -9,7 +9,12 @@ ghost use Rattle.peer_tables.specs.Tables.{Seat, TablesState, IsCollected, table
 ghost use Rattle.peer_tables.specs.Gathers.{gathered_seats};
 ghost use Rattle.peer_tables.specs.Standing.{AreSeatsOf, AreTablesOf};
 ghost use Rattle.peer_units.specs.declared.unit.PeerKey.{PeerKey as AnyPeer};
-ghost use Rattle.peer_tables.specs.Histories.{history_of, history_of_own, history_where};
+ghost use Rattle.route_choice.specs.Choices.{every_route};
+ghost use Rattle.peer_units.specs.Choices.{Choices};
+ghost use Rattle.adj_rib.specs.Histories.{meets_choice};
+ghost use Rattle.adj_rib.specs.Plain.{Note as AnyNote};
+ghost use Rattle.peer_tables.specs.declared.history.Listing.{Listing as AnyListing};
+ghost use Rattle.peer_tables.specs.Histories.{history_of, history_of_own, history_rows, history_where, is_listed, row_of};
 ghost use Rattle.peer_tables.specs.Peers.{peer_eq, units_of_peer, peers_of};
 ghost use Rattle.peer_tables.specs.Shares.{units_where};
 ghost use Rattle.std.specs.List.{filter};
@@ -49,6 +54,17 @@ pub fn histories_are_of_peers()
         history_of_own (units_of_peer units q) ≡ history_where (λ p. peer_eq p q) (history_of units) }
     ensures some { (takes : AnyPeer → Bool) (units : List ReplayUnit) →
         history_of (units_where takes units) ≡ history_where takes (history_of units) }
+{}
+
+/// The rows under a choice of routes are those of what happened to all routes of the chosen keys where the route after
+/// or the one before is chosen, in the same order: so a key has one where it comes to a chosen route, where it has one
+/// again, and where it leaves it. Where no route is named, all have rows.
+pub fn rows_follow_chosen_routes()
+    ensures rows { (listing : AnyListing) (choices : Choices) (units : List ReplayUnit) →
+        history_rows listing choices units
+        ≡ map row_of (filter (λ e. meets_choice choices.routes e.1)
+        (filter (is_listed listing (record { prefixes = choices.prefixes; routes = every_route })) (history_of units))) }
+    ensures unnamed { (note : AnyNote) → meets_choice every_route note ≡ true }
 {}
 
 /// A replay of the units of some peers has these peers in the same order, each with all its units: so with the same

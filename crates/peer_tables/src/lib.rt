@@ -6,8 +6,8 @@
 //! (`lanes_make_no_difference`), and a replay of some of the peers has their tables as they are in a replay of all
 //! (`shares_keep_peers`).
 //!
-//! `Tables::retain` leaves the routes of chosen prefixes alone, if any are named, before a report is made: an UPDATE
-//! that concerns a chosen prefix may have announced others.
+//! `Tables::retain` leaves the chosen routes of chosen prefixes alone, if any are named, before a report is made: an
+//! UPDATE that concerns a chosen prefix may have announced others, and units are taken whatever routes are chosen.
 //!
 //! `Watches` passes each unit to the watch on its peer, and makes rows of what it did (`HistoryRows`), in the order of
 //! the units: one thread, no lanes. The watches are those of the units' peers (`watches_of`): each took its peer's own
@@ -34,8 +34,8 @@ mod watches;
 
 pub use history::{By, HistoryRow, HistoryRows, Listed, Listing};
 pub use laws::{
-    collected_stand_for_units, histories_are_of_peers, lanes_make_no_difference, shares_keep_peers,
-    tables_are_of_units,
+    collected_stand_for_units, histories_are_of_peers, lanes_make_no_difference,
+    rows_follow_chosen_routes, shares_keep_peers, tables_are_of_units,
 };
 pub use peer_numbers::Peers;
 pub use shared_peer::SharedPeer;

@@ -11,7 +11,7 @@ ghost use Rattle.peer_tables.specs.Seats.{seat_of};
 use adj_rib::{RouteId, Session};
 use bgp_prefix::{Memory, PrefixMap, Sequence};
 use bgp_update::Unicast;
-use peer_units::{ChosenPrefixes, Damage, PeerKey};
+use peer_units::{Chosen, Damage, PeerKey};
 use std::alloc::Global;
 use std::marker::Model;
 
@@ -82,17 +82,6 @@ impl<F: Unicast, M: PrefixMap<RouteId, Addr = F>> Tables<M> {
         count
     }
 
-    /// Removes the routes of prefixes that aren't chosen.
-    #[tactic(auto, using(crate::proofs::ChosenLaws::open_tables))]
-    pub fn retain(&mut self, alloc: Global, chosen: &ChosenPrefixes<F>) -> Result<(), Memory>
-        ensures { OnOk result (self.new ≡ chosen_tables chosen.now self.old) }
-    {
-        if chosen.is_open() {
-            return Ok(());
-        }
-        retain_seats(alloc, chosen, &mut self.seats)
-    }
-
     /// The number of routes in all tables. Saturates at `u64::MAX`.
     pub fn routes(&self) -> u64
         ensures { result ≡ min (length (all_routes self.now)) (2 ^ 64 - 1) }
@@ -101,11 +90,24 @@ impl<F: Unicast, M: PrefixMap<RouteId, Addr = F>> Tables<M> {
     }
 }
 
-/// Removes the routes of prefixes that aren't chosen from each session.
+impl<F: Unicast, M: PrefixMap<RouteId, Addr = F> + Drop> Tables<M> {
+    /// Removes the routes of prefixes that aren't chosen, and those that aren't chosen themselves.
+    #[tactic(auto, using(crate::proofs::ChosenLaws::open_tables))]
+    pub fn retain(&mut self, alloc: Global, chosen: &Chosen<F>) -> Result<(), Memory>
+        ensures { OnOk result (self.new ≡ chosen_tables chosen.now self.old) }
+    {
+        if chosen.is_open() {
+            return Ok(());
+        }
+        retain_seats(alloc, chosen, &mut self.seats)
+    }
+}
+
+/// Removes the routes that aren't chosen, or not their prefixes, from each session.
 #[tactic(auto, using(crate::proofs::ChosenLaws::chosen_none, crate::proofs::ChosenLaws::chosen_all))]
-fn retain_seats<F: Unicast, M: PrefixMap<RouteId, Addr = F>>(
+fn retain_seats<F: Unicast, M: PrefixMap<RouteId, Addr = F> + Drop>(
     alloc: Global,
-    chosen: &ChosenPrefixes<F>,
+    chosen: &Chosen<F>,
     seats: &mut [Seated<M>],
 ) -> Result<(), Memory>
     ensures { OnOk result (map seat_of seats.new ≡ map (chosen_seat chosen.now) (map seat_of seats.old)) }

@@ -4,7 +4,7 @@ ghost use Rattle.std.specs.Prelude.{◌≡◌, [], ◌∷◌, ◌++◌, IfOk, Li
 ghost use Rattle.std.specs.List.{list_any};
 ghost use Rattle.peer_units.specs.DecodedEvents.{event_of};
 ghost use Rattle.peer_units.specs.Events.{event_in};
-ghost use Rattle.peer_units.specs.Plain.{PrefixChoice as Choice};
+ghost use Rattle.peer_units.specs.Choices.{Choices as AnyChoices};
 ghost use Rattle.peer_tables.specs.Peers.{peer_eq};
 ghost use Rattle.peer_tables.specs.Histories.{watches_of};
 ghost use Rattle.peer_tables.specs.Watching.{TakesUnit, keys_in, watch_in};
@@ -15,7 +15,7 @@ use crate::shared_peer::SharedPeer;
 use adj_rib::{RouteId, Watch};
 use bgp_prefix::{Memory, Prefix, PrefixMap};
 use bgp_update::Unicast;
-use peer_units::{ChosenPrefixes, DecodedEvents, EventRef, UnitRef};
+use peer_units::{Chosen, DecodedEvents, EventRef, UnitRef};
 use std::alloc::Global;
 use std::marker::Model;
 
@@ -29,7 +29,7 @@ pub struct Watched<M: PrefixMap<RouteId>> {
 /// Passes the unit to the watch at this position, and adds the rows of what it did.
 fn take_known<F: Unicast, M: PrefixMap<RouteId, Addr = F> + Drop>(
     alloc: Global,
-    chosen: &ChosenPrefixes<F>,
+    chosen: &Chosen<F>,
     listing: Listing,
     peers: &mut Vec<Watched<M>>,
     at: usize,
@@ -54,7 +54,7 @@ fn take_known<F: Unicast, M: PrefixMap<RouteId, Addr = F> + Drop>(
 /// Passes the unit to a new watch, and adds the rows of what it did. An `Err` leaves the watches as they were.
 fn take_new<F: Unicast, M: PrefixMap<RouteId, Addr = F> + Drop>(
     alloc: Global,
-    chosen: &ChosenPrefixes<F>,
+    chosen: &Chosen<F>,
     listing: Listing,
     numbers: &mut Peers,
     peers: &mut Vec<Watched<M>>,
@@ -113,7 +113,7 @@ impl<F: Unicast, M: PrefixMap<RouteId, Addr = F> + Drop> Watches<M> {
 
     /// Returns no watch.
     pub fn new(alloc: Global) -> Result<Watches<M>, Memory>
-        ensures { IfOk result (λ watches. (since : Option ℕ) (choices : List Choice) → watches ≡ watches_of since choices []) }
+        ensures { IfOk result (λ watches. (since : Option ℕ) (choices : AnyChoices) → watches ≡ watches_of since choices []) }
     {
         Ok(Watches {
             peers: Vec::new(alloc),
@@ -122,12 +122,13 @@ impl<F: Unicast, M: PrefixMap<RouteId, Addr = F> + Drop> Watches<M> {
         })
     }
 
-    /// Takes the next unit, and adds the rows of what it did to keys of chosen prefixes. After an `Err` the watches no
+    /// Takes the next unit, and adds the rows of what it did to keys of chosen prefixes and their chosen
+    /// routes. After an `Err` the watches no
     /// longer stand for units, and some of the unit's rows may have been added.
     pub fn take(
         &mut self,
         alloc: Global,
-        chosen: &ChosenPrefixes<F>,
+        chosen: &Chosen<F>,
         listing: Listing,
         unit: &UnitRef<'_, F>,
         rows: &mut HistoryRows<F>,

@@ -4,6 +4,7 @@ use Rattle.std.specs.List.{list_any}
 use Rattle.bgp_prefix.specs.Prefixes.{IpPrefix, prefix_eq, covers}
 use Rattle.bgp_update.specs.Families.{Rules, ipv4, rules_of}
 use Rattle.bgp_update.specs.KeptAttributes.{no_attributes}
+use Rattle.route_choice.specs.Choices.{RouteChoice, every_route, names_nothing}
 use Rattle.peer_units.specs.declared.choice.Reach.{Reach}
 use Rattle.peer_units.specs.declared.choice.Reach.TheVariants.{Exact, Inside, Around}
 use Rattle.peer_units.specs.Plain.{PrefixChoice}
@@ -22,8 +23,8 @@ pub record PeerShare : Type 0 where
   pub count : ℕ
 
 -- what is asked for: up to this second, the prefixes and the peers that these take, or all where there are none, and
--- the peers of this share; by which rules state changes and further RIB dumps are taken; and by which messages and
--- entries are read
+-- the peers of this share; by which rules state changes and further RIB dumps are taken; by which messages and entries
+-- are read; and which routes of the tables are chosen in the end
 pub record UnitSelection : Type 0 where
   pub until : Option ℕ
   pub prefixes : List PrefixChoice
@@ -32,6 +33,20 @@ pub record UnitSelection : Type 0 where
   pub states : StateRule
   pub ribs : RibRule
   pub rules : Rules
+  pub routes : RouteChoice
+
+-- what is chosen of tables: keys by their prefixes, and routes
+pub record Choices : Type 0 where
+  pub prefixes : List PrefixChoice
+  pub routes : RouteChoice
+
+-- where nothing is named
+abbrev pub every_choice : Choices
+every_choice = record { prefixes = []; routes = every_route }
+
+-- what a selection chooses of tables
+abbrev pub choices_of : UnitSelection → Choices
+choices_of selection = record { prefixes = selection.prefixes; routes = selection.routes }
 
 -- where nothing but the rules of reading is named
 abbrev pub all_of : Rules → UnitSelection
@@ -43,6 +58,7 @@ all_of rules = record {
   states = Recorded;
   ribs = Add;
   rules = rules;
+  routes = every_route;
 }
 
 -- where nothing is named
@@ -68,6 +84,10 @@ is_open (choice ∷ choices) = false
 -- one of the choices takes the prefix, or there is none
 abbrev pub is_chosen : List PrefixChoice → IpPrefix → Bool
 is_chosen choices prefix = is_open choices || list_any (λ choice. takes_prefix choice prefix) choices
+
+-- nothing is named
+abbrev pub chooses_all : Choices → Bool
+chooses_all choices = is_open choices.prefixes && names_nothing choices.routes
 
 -- ---- peers
 

@@ -21,6 +21,7 @@
 #![tactic(auto)]
 
 mod choice;
+mod chosen;
 mod chosen_prefixes;
 mod decoded_events;
 mod event_ref;
@@ -37,6 +38,7 @@ mod unit;
 mod unit_ref;
 
 pub use choice::{PeerChoice, PrefixChoice, Reach};
+pub use chosen::Chosen;
 pub use chosen_prefixes::ChosenPrefixes;
 pub use decoded_events::DecodedEvents;
 pub use event_ref::EventRef;

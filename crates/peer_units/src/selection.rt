@@ -3,11 +3,12 @@
 ghost use Rattle.std.specs.Prelude.{◌≡◌, IfOk, true};
 ghost use Rattle.bgp_update.specs.Families.{rules_of};
 ghost use Rattle.bgp_update.specs.KeptAttributes.{no_attributes};
-ghost use Rattle.peer_units.specs.Choices.{all_of, is_in_share, is_open};
+ghost use Rattle.peer_units.specs.Choices.{all_of, choices_of, is_in_share, is_open};
 ghost use Rattle.peer_units.specs.Selections.{concerns, has_chosen, is_past, is_selected, speaks_of, takes_each_peer, takes_peer, takes_record};
 ghost use Rattle.peer_units.specs.DecodedEvents.{event_of};
 
 use crate::choice::{PeerChoice, is_chosen_peer};
+use crate::chosen::Chosen;
 use crate::chosen_prefixes::ChosenPrefixes;
 use crate::decoded_events::DecodedEvents;
 use crate::event_ref::EventRef;
@@ -18,21 +19,23 @@ use crate::unit::{Payload, PeerKey};
 use crate::unit_ref::{PayloadRef, UnitRef};
 use bgp_prefix::{Memory, Prefix, RouteKey};
 use bgp_update::{AttributeSet, Rules, Unicast};
+use route_choice::ChosenRoutes;
 use std::alloc::Global;
 use std::marker::Model;
 
 /// Which of the units that records give are returned: those that meet each criterion. Any other unit is
 /// skipped, as if no record gave it. Refused records, index tables and the counts of records are the same
 /// for each selection. It also says by which rules state changes and further RIB dumps are taken, and messages and
-/// entries read.
+/// entries read; and which routes of the tables are chosen in the end.
 #[derive(Debug, Drop)]
 pub struct Selection<F: Unicast = u32> {
     /// The last second of which units are returned, in seconds since 1970 UTC. A unit is skipped if the
     /// whole second of its time is past it. With `None` no time is.
     until: Option<u64>,
-    /// Which prefixes are chosen. A unit that can't concern a chosen prefix is skipped: a RIB entry of another prefix,
-    /// or an UPDATE that speaks of others only.
-    prefixes: ChosenPrefixes<F>,
+    /// Which prefixes and routes are chosen. A unit that can't concern a chosen prefix is skipped: a RIB entry of another
+    /// prefix, or an UPDATE that speaks of others only. Which routes are chosen makes no difference to which units are
+    /// returned.
+    chosen: Chosen<F>,
     /// Which peers are chosen: those that one of these takes, or all if there are none.
     peers: Vec<PeerChoice>,
     /// Of the chosen peers those in this share alone, or all with `None`.
@@ -52,12 +55,13 @@ impl<F: Unicast> Model for Selection<F> {
 
     ghost view = { λ s. record {
       until = s.until;
-      prefixes = s.prefixes;
+      prefixes = s.chosen.prefixes;
       peers = s.peers.items;
       share = s.share;
       states = s.states;
       ribs = s.ribs;
       rules = s.rules;
+      routes = s.chosen.routes;
     } };
 }
 
@@ -128,7 +132,7 @@ impl<F: Unicast> Selection<F> {
     {
         Selection {
             until: None,
-            prefixes: ChosenPrefixes::all(alloc),
+            chosen: Chosen::all(alloc),
             peers: Vec::new(alloc),
             share: None,
             states: StateRule::Recorded,
@@ -149,7 +153,7 @@ impl<F: Unicast> Selection<F> {
     pub fn of_prefixes(mut self, prefixes: ChosenPrefixes<F>) -> Selection<F>
         ensures { result ≡ record self { prefixes = prefixes } }
     {
-        self.prefixes = prefixes;
+        self.chosen = self.chosen.of_prefixes(prefixes);
         self
     }
 
@@ -193,6 +197,14 @@ impl<F: Unicast> Selection<F> {
         self
     }
 
+    /// Returns the same selection, of whose tables these routes are chosen.
+    pub fn of_routes(mut self, routes: ChosenRoutes) -> Selection<F>
+        ensures { result ≡ record self { routes = routes } }
+    {
+        self.chosen = self.chosen.of_routes(routes);
+        self
+    }
+
     /// By which rules messages and entries are read.
     #[inline(always)]
     pub fn rules(&self) -> Rules<F>
@@ -222,14 +234,21 @@ impl<F: Unicast> Selection<F> {
     pub fn prefixes(&self) -> &ChosenPrefixes<F>
         ensures { result.now ≡ self.now.prefixes }
     {
-        &self.prefixes
+        self.chosen.prefixes()
+    }
+
+    /// What is chosen of the tables that the units leave, and of what they do to them.
+    pub fn chosen(&self) -> &Chosen<F>
+        ensures { result.now ≡ choices_of self.now }
+    {
+        &self.chosen
     }
 
     /// Whether no prefix is named, so that all are chosen.
     pub fn is_open(&self) -> bool
         ensures { result ≡ is_open self.now.prefixes }
     {
-        self.prefixes.is_open()
+        self.prefixes().is_open()
     }
 
     /// Whether neither peers nor a share are named, so that each peer is taken.
@@ -271,7 +290,7 @@ impl<F: Unicast> Selection<F> {
         if self.is_past(unit.time) || !self.takes_peer(&unit.peer) {
             return Ok(false);
         }
-        concerns(alloc, decoded, &self.prefixes, &unit.payload)
+        concerns(alloc, decoded, self.prefixes(), &unit.payload)
     }
 
     /// Whether the entries of a RIB record of this time and prefix are selected, as far as these decide.
@@ -281,7 +300,7 @@ impl<F: Unicast> Selection<F> {
         if self.is_past(time) {
             return false;
         }
-        self.prefixes.takes(prefix)
+        self.prefixes().takes(prefix)
     }
 
     /// Whether all units of this time, in microseconds since 1970 UTC, are skipped.

@@ -19,6 +19,6 @@ cells_in_parts format layout cells (Some route) t m ts ms fields objects =
     line_in_parts format cells (path_cell route.path ∷ attribute_cells layout route) layout.attributes route.kept t m ts ms fields objects
 
 pub history_in_parts : (format : Format) (layout : Layout) (row : RowState)
-    → line_front format (event_cells layout row) ++ listed_behind format layout row.note.route
-    ≡ line_by format (event_cells layout row ++ listed_cells layout row.note.route)
-history_in_parts format layout row = cells_in_parts format layout (event_cells layout row) row.note.route _ _ _ _ refl refl
+    → line_front format (event_cells layout row) ++ listed_behind format layout row.route
+    ≡ line_by format (event_cells layout row ++ listed_cells layout row.route)
+history_in_parts format layout row = cells_in_parts format layout (event_cells layout row) row.route _ _ _ _ refl refl

@@ -20,4 +20,5 @@ pub mod OriginLaws
 pub mod SeenLaws
 pub mod MatchLaws
 pub mod UnitReportLaws
+pub mod ChoiceLaws
 pub mod DefinedLaws

@@ -47,9 +47,9 @@ moment time = record { column = column.Time; text = time_text time; values = tim
 -- time, peer, what happened, what brought it about, and key
 abbrev pub event_cells : Layout → RowState → List Cell
 event_cells layout row =
-    moment row.time ∷ peer_cell layout row.peer ∷ word key.What (what_text row.note.what) ∷ word key.By (by_text row.by)
-    ∷ key_cell layout row.note.key ∷ []
+    moment row.time ∷ peer_cell layout row.peer ∷ word key.What (what_text row.what) ∷ word key.By (by_text row.by)
+    ∷ key_cell layout row.key ∷ []
 
 -- these, and the fields of its route
 abbrev pub history_line : Layout → RowState → List ℕ
-history_line layout row = line_by layout.format (event_cells layout row ++ listed_cells layout row.note.route)
+history_line layout row = line_by layout.format (event_cells layout row ++ listed_cells layout row.route)

@@ -15,6 +15,8 @@ use Rattle.bgp_update.specs.Paths.{origin_as_of}
 use Rattle.peer_units.specs.declared.unit.PeerKey.{PeerKey}
 use Rattle.peer_units.specs.declared.unit.Place.{Place}
 use Rattle.peer_units.specs.declared.unit.Damage.{Damage}
+use Rattle.peer_units.specs.Choices.{Choices}
+use Rattle.adj_rib.specs.Selecting.{is_chosen_entry}
 use Rattle.peer_tables.specs.Histories.{PeerWatch}
 use Rattle.peer_tables.specs.Tables.{Seat, TablesState, all_faults}
 use Rattle.rib_report.specs.Rows.{TableRow}
@@ -27,6 +29,10 @@ use Rattle.rib_report.specs.declared.reports.peers.PeerRow.{PeerRow}
 
 abbrev pub entry_row : PeerKey → RouteKey × Route → TableRow
 entry_row peer e = record { peer = peer; key = e.0; route = e.1 }
+
+-- its key and its route are chosen
+abbrev pub is_chosen_row : Choices → TableRow → Bool
+is_chosen_row choices row = is_chosen_entry choices (row.key, row.route)
 
 -- every entry of a peer's table, keys in order
 abbrev pub rows_of_seat : Seat → List TableRow

@@ -1,7 +1,7 @@
 //! The laws of reports: they are those of the units and refusals that tables stand for, and what their rows say, stated
 //! without an order of work. Nothing is computed.
 
-ghost use Rattle.std.specs.Prelude.{◌≡◌, List, ◌≤◌, ◌+◌, ◌↔◌, ℕ, Bool, IsTrue, Option, Some, decimal, length, map};
+ghost use Rattle.std.specs.Prelude.{◌≡◌, List, ◌≤◌, ◌+◌, ◌&&◌, ◌↔◌, ℕ, Bool, IsTrue, Option, Some, decimal, length, map};
 ghost use Rattle.peer_units.specs.States.{AreByRule};
 ghost use Rattle.peer_units.specs.declared.state_rule.StateRule.TheVariants.{Recorded};
 ghost use Rattle.peer_units.specs.declared.unit.Damage.{Damage as ListedFault, Damage};
@@ -9,18 +9,20 @@ ghost use Rattle.peer_units.specs.declared.unit.PeerKey.{PeerKey as AnyPeer, Pee
 ghost use Rattle.peer_units.specs.Plain.{Unit as ReplayUnit};
 ghost use Rattle.adj_rib.specs.Steps.{is_up};
 ghost use Rattle.peer_tables.specs.Peers.{units_of_peer};
-ghost use Rattle.peer_tables.specs.Tables.{TablesState, all_faults};
+ghost use Rattle.peer_units.specs.Choices.{Choices};
+ghost use Rattle.adj_rib.specs.Selecting.{is_chosen_entry};
+ghost use Rattle.peer_tables.specs.Tables.{Seat, TablesState, all_faults, chosen_seat, chosen_tables};
 ghost use Rattle.peer_tables.specs.Standing.{AreTablesOf};
 ghost use Rattle.rib_report.specs.UnitReports.{HasReportsOf, HaveSameTexts, peer_at};
 ghost use Rattle.std.specs.FinMap.{find, is_sorted};
-ghost use Rattle.std.specs.List.{AllByRecursion, count_by, filter};
+ghost use Rattle.std.specs.List.{AllByRecursion, count_by, filter, list_any};
 ghost use Rattle.std.specs.List.Sorted.{IsSortedByKey, IsStableByKey};
-ghost use Rattle.bgp_prefix.specs.Prefixes.{IpPrefix, prefix_cmp};
+ghost use Rattle.bgp_prefix.specs.Prefixes.{IpPrefix, prefix_cmp, prefix_eq};
 ghost use Rattle.report_request.specs.declared.column.Key.{Key as AnyKey};
 ghost use Rattle.rib_report.specs.Cells.{quoted};
 ghost use Rattle.rib_report.specs.JsonValues.{HasNoQuote, IsValue, object_line};
 ghost use Rattle.rib_report.specs.Rows.{visibility_pair, origins_pair, seen_pair};
-ghost use Rattle.rib_report.specs.Reports.{place_cmp, visibility_of, visibility_rows, origins_of, origin_rows, fault_rows, prefix_origin_cmp, seen_of, seen_rows, origins_seen, share_of, rest_of, route_rows, match_rows, churn_rows, peer_rows};
+ghost use Rattle.rib_report.specs.Reports.{place_cmp, visibility_of, visibility_rows, origins_of, origin_rows, fault_rows, is_seen_at, is_visible_at, prefix_origin, prefix_origin_cmp, prefix_origin_eq, seen_of, seen_rows, is_chosen_row, origins_seen, share_of, rest_of, route_rows, match_rows, churn_rows, peer_rows};
 
 /// The reports on tables that stand for units and refusals have the rows that are defined over these alone,
 /// where no lane, no number of workers and no order of collecting occurs. So tables that stand for the same
@@ -94,6 +96,22 @@ pub fn rows_of_shares()
         churn_rows (share_of is_in tables) ≡ filter (λ row. is_in row.peer) (churn_rows tables) }
     ensures peers { (tables : TablesState) (is_in : PeerKey → Bool) →
         peer_rows (share_of is_in tables) ≡ filter (λ row. is_in row.peer) (peer_rows tables) }
+{}
+
+/// The rows of chosen keys and routes are those of the whole report whose key and route are chosen, in the same order.
+/// A prefix is visible at a peer, or seen there with an origin AS, exactly if a chosen route there has it. And what is
+/// chosen of a share of the peers is their share of what is chosen, so that the sums over shares hold for choices too.
+pub fn rows_of_choices()
+    ensures tables { (choices : Choices) (tables : TablesState) →
+        route_rows (chosen_tables choices tables) ≡ filter (is_chosen_row choices) (route_rows tables) }
+    ensures visibility { (choices : Choices) (seat : Seat) (prefix : IpPrefix) →
+        is_visible_at prefix (chosen_seat choices seat)
+        ≡ list_any (λ e. is_chosen_entry choices e && prefix_eq prefix e.0.prefix) seat.session.table }
+    ensures seen { (choices : Choices) (seat : Seat) (pair : IpPrefix × Option ℕ) →
+        is_seen_at pair (chosen_seat choices seat)
+        ≡ list_any (λ e. is_chosen_entry choices e && prefix_origin_eq pair (prefix_origin e)) seat.session.table }
+    ensures shares { (choices : Choices) (tables : TablesState) (is_in : PeerKey → Bool) →
+        chosen_tables choices (share_of is_in tables) ≡ share_of is_in (chosen_tables choices tables) }
 {}
 
 /// Of the faults that pass any test, a share of the peers and the others list as many as the whole report, and the

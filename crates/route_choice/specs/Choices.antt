@@ -5,9 +5,21 @@ use Rattle.std.specs.Option.{option_and_then, option_eq}
 use Rattle.bgp_update.specs.declared.kept_attribute.KeptAttribute.{KeptAttribute}
 use Rattle.bgp_update.specs.declared.route.Route.{Route}
 use Rattle.bgp_update.specs.Paths.{origin_as_of}
-use Rattle.route_choice.specs.declared.choice.RouteChoice.{RouteChoice}
+use Rattle.route_choice.specs.declared.community.CommunityPattern.{CommunityPattern}
+use Rattle.route_choice.specs.declared.path_mask.PathStep.{PathStep}
 use Rattle.route_choice.specs.Masks.{path_matches}
 use Rattle.route_choice.specs.Communities.{has_community, asks_for}
+
+-- the values of each kind that are named: origin ASes, and none for the routes that have none; masks of the AS path; and
+-- patterns of communities
+pub record RouteChoice : Type 0 where
+  pub origins : List (Option ℕ)
+  pub paths : List (List PathStep)
+  pub communities : List CommunityPattern
+
+-- where nothing is named
+abbrev pub every_route : RouteChoice
+every_route = record { origins = []; paths = []; communities = [] }
 
 -- the same origin AS, or none at both
 abbrev pub is_same_origin : Option ℕ → Option ℕ → Bool
@@ -25,9 +37,9 @@ meets passes (x ∷ xs) = list_any passes (x ∷ xs)
 -- its origin AS, its path and its communities are chosen
 abbrev pub is_chosen_route : RouteChoice → Route → Bool
 is_chosen_route choice route =
-    meets (is_same_origin (origin_of route)) choice.origins.items
-    && (meets (λ mask. path_matches mask route.path) choice.paths.items
-    && meets (has_community route.kept) choice.communities.items)
+    meets (is_same_origin (origin_of route)) choice.origins
+    && (meets (λ mask. path_matches mask route.path) choice.paths
+    && meets (has_community route.kept) choice.communities)
 
 -- ---- what it needs
 
@@ -38,8 +50,8 @@ is_unnamed (x ∷ xs) = false
 -- no value is named
 abbrev pub names_nothing : RouteChoice → Bool
 names_nothing choice =
-    is_unnamed choice.origins.items && (is_unnamed choice.paths.items && is_unnamed choice.communities.items)
+    is_unnamed choice.origins && (is_unnamed choice.paths && is_unnamed choice.communities)
 
 -- a pattern is about members of this attribute
 abbrev pub needs : RouteChoice → KeptAttribute → Bool
-needs choice a = list_any (asks_for a) choice.communities.items
+needs choice a = list_any (asks_for a) choice.communities

@@ -9,7 +9,7 @@
 //! - A pattern of communities is about the members of one attribute, which a route has to keep (`attributes`).
 #![tactic(auto)]
 
-mod choice;
+mod chosen_routes;
 mod community;
 mod community_text;
 mod cursor;
@@ -19,7 +19,7 @@ mod matching;
 mod number;
 mod path_mask;
 
-pub use choice::RouteChoice;
+pub use chosen_routes::ChosenRoutes;
 pub use community::{Administrator, CommunityPattern, PatternPart, Role};
 pub use community_text::read_community;
 pub use laws::masks_match_by_their_steps;

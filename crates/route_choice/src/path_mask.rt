@@ -30,7 +30,7 @@ impl PathStep {
 }
 
 /// A mask of AS paths: its steps in order, which have to match the whole path.
-#[derive(Drop)]
+#[derive(Debug, Drop)]
 pub struct PathMask {
     steps: Vec<PathStep>,
 }

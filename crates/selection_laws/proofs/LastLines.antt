@@ -30,7 +30,7 @@ use Rattle.peer_tables.specs.Histories.{RowState, history_of, history_of_own, hi
 use Rattle.peer_tables.specs.Peers.{peer_eq, units_of_peer}
 use Rattle.peer_tables.proofs.HistoryLaws.{history_of-peer}
 use Rattle.selection_laws.specs.Dumps.{table_of_peer}
-use Rattle.selection_laws.specs.LastLines.{noted_of, notes_at, route_by_last, staying}
+use Rattle.selection_laws.specs.LastLines.{all_routes_of, noted_of, notes_at, route_by_last, row_note, staying}
 use Rattle.selection_laws.specs.Wider.{of_all_prefixes}
 use Rattle.selection_laws.proofs.Filters.{filter_twice}
 use Rattle.selection_laws.proofs.SameRoutes.{and_swapped, same_found}
@@ -212,9 +212,21 @@ last_of_own own k =
 
 -- ---- rows
 
-module _ (listing : Listing) (choices : List PrefixChoice) (q : PeerKey) (every : listing.since ≡ None) (some : listing.listed ≢ Nothing) where
+-- a note that doesn't tell which route the key had before
+abbrev untold : Note → Note
+untold note = record note { before = None }
+
+-- says the same of each key
+untold_said : (notes : List Note) (k : RouteKey) → filter_map (noted_of k) (map untold notes) ≡ filter_map (noted_of k) notes
+untold_said [] k = refl
+untold_said (note ∷ notes) k = ap (cons_option (noted_of k note)) (untold_said notes k)
+
+untold_last : (notes : List Note) (k : RouteKey) → route_by_last (map untold notes) k ≡ route_by_last notes k
+untold_last notes k = ap (λ (l : List (Option Route)). unwrap_or (last_or None l) None) (untold_said notes k)
+
+module _ (listing : Listing) (prefixes : List PrefixChoice) (q : PeerKey) (every : listing.since ≡ None) (some : listing.listed ≢ Nothing) where
   abbrev kept : Note → Bool
-  kept note = chooses choices note.key && is_asked listing.listed note.what
+  kept note = chooses prefixes note.key && is_asked listing.listed note.what
 
   abbrev is_here : ReplayUnit × Note → Bool
   is_here e = peer_eq e.0.peer q
@@ -224,19 +236,19 @@ module _ (listing : Listing) (choices : List PrefixChoice) (q : PeerKey) (every 
   asked Changes not_nothing note changes = changes
   asked All not_nothing note changes = refl
 
-  keeps : (k : RouteKey) → chooses choices k ≡ true → (note : Note) → key_eq k note.key ≡ true → is_change note.what ≡ true → kept note ≡ true
+  keeps : (k : RouteKey) → chooses prefixes k ≡ true → (note : Note) → key_eq k note.key ≡ true → is_change note.what ≡ true → kept note ≡ true
   keeps k chosen note here changes =
-      (λ i. chooses choices (sym (same_key k note.key here) i) && asked listing.listed some note changes i) ∙ ap (λ (b : Bool). b && true) chosen
+      (λ i. chooses prefixes (sym (same_key k note.key here) i) && asked listing.listed some note changes i) ∙ ap (λ (b : Bool). b && true) chosen
 
-  listed_kept : (e : ReplayUnit × Note) → is_listed listing choices e ≡ kept e.1
+  listed_kept : (e : ReplayUnit × Note) → is_listed listing (all_routes_of prefixes) e ≡ kept e.1
   listed_kept e = ap (λ (since : Option ℕ). not (is_before since e.0.time) && kept e.1) every
 
-  row_first : (b : Bool) (e : ReplayUnit × Note) (h : List (ReplayUnit × Note)) (rows : List RowState) → map (λ (row : RowState). row.note) rows ≡ map note_in h →
-      map (λ (row : RowState). row.note) (cond b (row_of e ∷ rows) rows) ≡ map note_in (cond b (e ∷ h) h)
-  row_first true e h rows same = ap (λ (l : List Note). e.1 ∷ l) same
+  row_first : (b : Bool) (e : ReplayUnit × Note) (h : List (ReplayUnit × Note)) (rows : List RowState) → map row_note rows ≡ map untold (map note_in h) →
+      map row_note (cond b (row_of e ∷ rows) rows) ≡ map untold (map note_in (cond b (e ∷ h) h))
+  row_first true e h rows same = ap (λ (l : List Note). untold e.1 ∷ l) same
   row_first false e h rows same = same
 
-  notes_of_rows : (h : List (ReplayUnit × Note)) → notes_at q (map row_of h) ≡ map note_in (filter is_here h)
+  notes_of_rows : (h : List (ReplayUnit × Note)) → notes_at q (map row_of h) ≡ map untold (map note_in (filter is_here h))
   notes_of_rows [] = refl
   notes_of_rows (e ∷ h) = row_first (is_here e) e (filter is_here h) (filter (λ (row : RowState). peer_eq row.peer q) (map row_of h)) (notes_of_rows h)
 
@@ -249,29 +261,31 @@ module _ (listing : Listing) (choices : List PrefixChoice) (q : PeerKey) (every 
   kept_notes (e ∷ h) = note_first (kept e.1) e (filter (λ f. kept f.1) h) ∙ ap (λ (l : List Note). cond (kept e.1) (e.1 ∷ l) l) (kept_notes h)
 
   -- the notes of the peer's rows are those of its own steps that are kept
-  row_notes : (units : List ReplayUnit) → notes_at q (history_rows listing choices units) ≡ filter kept (noted_behind [] (steps_of (units_of_peer units q)))
+  row_notes : (units : List ReplayUnit) → notes_at q (history_rows listing (all_routes_of prefixes) units) ≡ map untold (filter kept (noted_behind [] (steps_of (units_of_peer units q))))
   unfolding history_rows
   row_notes units =
       let h : List (ReplayUnit × Note) = history_of units in
       let listed : ReplayUnit × Note → Bool = λ e. kept e.1 in
-      notes_of_rows (filter (is_listed listing choices) h)
-      ∙ ap (λ (l : List (ReplayUnit × Note)). map note_in (filter is_here l)) (filter_agree (is_listed listing choices) listed listed_kept h)
-      ∙ ap (map note_in)
+      notes_of_rows (filter (is_listed listing (all_routes_of prefixes)) h)
+      ∙ ap (λ (l : List (ReplayUnit × Note)). map untold (map note_in (filter is_here l))) (filter_agree (is_listed listing (all_routes_of prefixes)) listed listed_kept h)
+      ∙ ap (λ (l : List (ReplayUnit × Note)). map untold (map note_in l))
       (filter_twice listed is_here h
       ∙ filter_agree (λ e. listed e && is_here e) (λ e. is_here e && listed e) (λ e. and_swapped (listed e) (is_here e)) h
       ∙ sym (filter_twice is_here listed h)
       ∙ ap (filter listed) (sym (history_of-peer q units)))
-      ∙ kept_notes (history_of_own (units_of_peer units q))
-      ∙ ap (filter kept) (notes_of_own (units_of_peer units q))
+      ∙ ap (map untold) (kept_notes (history_of_own (units_of_peer units q)))
+      ∙ ap (λ (l : List Note). map untold (filter kept l)) (notes_of_own (units_of_peer units q))
 
-  pub last_of_rows : (units : List ReplayUnit) (k : RouteKey) → chooses choices k ≡ true → find key_cmp k (table_of_peer units q) ≡ route_by_last (notes_at q (history_rows listing choices units)) k
+  pub last_of_rows : (units : List ReplayUnit) (k : RouteKey) → chooses prefixes k ≡ true → find key_cmp k (table_of_peer units q) ≡ route_by_last (notes_at q (history_rows listing (all_routes_of prefixes) units)) k
   last_of_rows units k chosen =
-      by_steps k kept (keeps k chosen) (steps_of (units_of_peer units q)) ∙ ap (λ (l : List Note). route_by_last l k) (sym (row_notes units))
+      by_steps k kept (keeps k chosen) (steps_of (units_of_peer units q))
+      ∙ sym (untold_last (filter kept (noted_behind [] (steps_of (units_of_peer units q)))) k)
+      ∙ ap (λ (l : List Note). route_by_last l k) (sym (row_notes units))
 
 -- ---- files
 
 pub last_of_files : (listing : Listing) (selection : UnitSelection) (files : List (List ℕ)) (q : PeerKey) (k : RouteKey) → listing.since ≡ None → listing.listed ≢ Nothing → chooses selection.prefixes k ≡ true →
-    find key_cmp k (table_of_peer (units_of (of_all_prefixes selection) files) q) ≡ route_by_last (notes_at q (history_rows listing selection.prefixes (units_of selection files))) k
+    find key_cmp k (table_of_peer (units_of (of_all_prefixes selection) files) q) ≡ route_by_last (notes_at q (history_rows listing (all_routes_of selection.prefixes) (units_of selection files))) k
 last_of_files listing selection files q k every some chosen =
     let here : Option Route = find key_cmp k (table_of_peer (units_of selection files) q) in
     let there : Option Route = find key_cmp k (table_of_peer (units_of (of_all_prefixes selection) files) q) in

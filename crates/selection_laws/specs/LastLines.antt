@@ -3,6 +3,9 @@ use Rattle.std.specs.Prelude.{List, map, Option, Some, None, unwrap_or, if◌the
 use Rattle.std.specs.List.{filter, filter_map, last_or}
 use Rattle.bgp_prefix.specs.Keys.{RouteKey, key_eq}
 use Rattle.bgp_update.specs.declared.route.Route.{Route}
+use Rattle.route_choice.specs.Choices.{every_route}
+use Rattle.peer_units.specs.Choices.{Choices}
+use Rattle.peer_units.specs.Plain.{PrefixChoice}
 use Rattle.peer_units.specs.declared.unit.PeerKey.{PeerKey}
 use Rattle.adj_rib.specs.Plain.{Note}
 use Rattle.adj_rib.specs.declared.outcome.What.{What}
@@ -27,6 +30,14 @@ noted_of k note = if key_eq k note.key then Some (staying note.what note.route) 
 abbrev pub route_by_last : List Note → RouteKey → Option Route
 route_by_last notes k = unwrap_or (last_or None (filter_map (noted_of k) notes)) None
 
+-- a choice of prefixes, with all routes
+abbrev pub all_routes_of : List PrefixChoice → Choices
+all_routes_of prefixes = record { prefixes = prefixes; routes = every_route }
+
+-- what a row says of its key: it doesn't tell which route the key had before
+abbrev pub row_note : RowState → Note
+row_note row = record { what = row.what; key = row.key; route = row.route; before = None }
+
 -- the notes of a peer's rows
 abbrev pub notes_at : PeerKey → List RowState → List Note
-notes_at q rows = map (λ row. row.note) (filter (λ row. peer_eq row.peer q) rows)
+notes_at q rows = map row_note (filter (λ row. peer_eq row.peer q) rows)

@@ -22,7 +22,7 @@ ghost use Rattle.peer_tables.specs.Peers.{units_of_peer};
 ghost use Rattle.peer_tables.specs.declared.history.Listed.TheVariants.{Nothing};
 ghost use Rattle.peer_tables.specs.declared.history.Listing.{Listing as AnyListing};
 ghost use Rattle.selection_laws.specs.Dumps.{BeginWith, begins_dump, clears_before, table_of_peer, units_before};
-ghost use Rattle.selection_laws.specs.LastLines.{notes_at, route_by_last};
+ghost use Rattle.selection_laws.specs.LastLines.{all_routes_of, notes_at, route_by_last};
 ghost use Rattle.selection_laws.specs.Wider.{of_all_peers, of_all_prefixes};
 
 /// The units of the chosen peers, and of a share, are those of all units whose peer is one of them, by either rule of
@@ -74,17 +74,18 @@ pub fn chosen_prefixes_keep_their_routes()
 
 /// The last line of a key of a peer gives the route that the key has in the peer's table: that of an announcement, and
 /// none after a withdrawal, a break or a clear; a key without a line has none. So of all that a peer's units did; of
-/// the rows of chosen keys, where none is left out for its time, and whether or not announcements of the route that was
-/// there have rows; and of files, even where the table is that of a reading of all prefixes.
+/// the rows of chosen keys with all their routes, where none is left out for its time, and whether or not announcements
+/// of the route that was there have rows; and of files, even where the table is that of a reading of all prefixes.
 pub fn last_lines_are_of_tables()
     ensures own { (own : List ReplayUnit) (key : RouteKey) →
         find key_cmp key (table_of (steps_of own)) ≡ route_by_last (map (λ e. e.1) (history_of_own own)) key }
     ensures rows { (listing : AnyListing) (choices : List Choice) (units : List ReplayUnit) (q : AnyPeer)
         (key : RouteKey) → listing.since ≡ None → listing.listed ≢ Nothing → chooses choices key ≡ true →
         find key_cmp key (table_of_peer units q)
-        ≡ route_by_last (notes_at q (history_rows listing choices units)) key }
+        ≡ route_by_last (notes_at q (history_rows listing (all_routes_of choices) units)) key }
     ensures files { (listing : AnyListing) (selection : UnitSelection) (files : List (List ℕ)) (q : AnyPeer)
         (key : RouteKey) → listing.since ≡ None → listing.listed ≢ Nothing → chooses selection.prefixes key ≡ true →
         find key_cmp key (table_of_peer (units_of (of_all_prefixes selection) files) q)
-        ≡ route_by_last (notes_at q (history_rows listing selection.prefixes (units_of selection files))) key }
+        ≡ route_by_last (notes_at q (history_rows listing (all_routes_of selection.prefixes) (units_of selection files)))
+        key }
 {}

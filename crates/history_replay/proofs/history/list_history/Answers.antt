@@ -1,10 +1,10 @@
-use Rattle.std.proofs.Common.{◌-◌, ◌≡◌, ◌≤◌, ◌^◌, List, sym, ap, ◌∙◌, length, map, arith}
+use Rattle.std.proofs.Common.{◌-◌, min, ◌≡◌, ◌≤◌, ◌^◌, List, sym, ap, ◌∙◌, length, map, arith}
 use Rattle.std.proofs.lemmas.List.{length-map}
 use Rattle.std.proofs.lemmas.Result.{err_from_is_err_and}
-use Rattle.peer_units.specs.Plain.{PrefixChoice}
+use Rattle.peer_units.specs.Choices.{Choices, choices_of}
 use Rattle.mrt_body.specs.Units.{units_of}
 use Rattle.peer_tables.specs.Histories.{history_rows, watches_of}
-use Rattle.history_replay.specs.Tellings.{Tells}
+use Rattle.history_replay.specs.Tellings.{Tells, watch_routes}
 use Rattle.history_replay.proofs.FilesTaken.{stops_replay, took_files, few_units_of, records_taken, aside_taken}
 use Rattle.history_replay.proofs.history.list_history.Goals as goal
 
@@ -27,8 +27,8 @@ returns-clause-listed g c contents known =
     let told = map g.R.Source.remaining c.args.files.now in
     let all = c.new-units.ensures.all contents in
     let cuts = c.new-units.ensures.cuts contents in
-    let chosen : List PrefixChoice = c.in_ok-chosen.chosen in
-    let same : chosen ≡ until.prefixes = c.in_ok-chosen.ensures ∙ c.prefixes.ensures in
+    let chosen : Choices = c.in_ok-chosen.chosen in
+    let same : chosen ≡ choices_of until = c.in_ok-chosen.ensures ∙ c.chosen.ensures in
     let taken = c.in_default.ensures.told in
     let empty = c.in_ok-told.ensures chosen c.args.listing in
     let took = took_files start _ max until c.new-units.ensures.fresh contents told known (Tells chosen c.args.listing) c.tell.new.units c.in_ok-told.told c.tell.new.told taken empty all in
@@ -39,5 +39,8 @@ returns-clause-listed g c contents known =
       refused_kept = took.refused_kept;
       records_counted = c.records.ensures ∙ records_taken start _ max until c.new-units.ensures.fresh contents told known (Tells chosen c.args.listing) c.tell.new.units c.in_ok-told.told c.tell.new.told taken empty cuts;
       units_counted = omega (arith, took.counted, few);
+      routes_counted = c.in-Ok.ensures
+          ∙ (λ i. min (length (watch_routes ((c.routes.ensures ∙ ap (λ (x : Choices). x.routes) same) i) (c.watched.ensures i))) (2 ^ 64 - 1))
+          ∙ ap (λ ws. min (length (watch_routes until.routes ws)) (2 ^ 64 - 1)) (took.watches ∙ ap (λ l. watches_of c.args.listing.since l (units_of until contents)) same);
       aside_counted = c.aside.ensures ∙ aside_taken start _ max until c.new-units.ensures.fresh contents told known (Tells chosen c.args.listing) c.tell.new.units c.in_ok-told.told c.tell.new.told taken empty cuts;
     }

@@ -2,6 +2,7 @@ use Rattle.std.proofs.Common.{◌≡◌, sym, ap, ◌∙◌, subst, Err, map, re
 use Rattle.std.specs.Io.KnownBytes.{Appends, Keeps}
 use Rattle.std.proofs.KnownBytes.{Appends-kept, Keeps-refl}
 use Rattle.std.proofs.lemmas.List.{length-map}
+use Rattle.peer_units.specs.Choices.{choices_of}
 use Rattle.mrt_body.specs.Units.{units_of}
 use Rattle.mrt_frame.specs.Writes.{WritesFront}
 use Rattle.mrt_frame.specs.declared.error.ReplayError.TheVariants as errors
@@ -54,7 +55,7 @@ returns-clause-promised g c = record {
       let until = c.args.selection in
       let since = c.args.listing.since in
       let watches = map watch_in c.watched-watches.result.now in
-      let stands : watches ≡ watches_of since until.prefixes (units_of until files) = c.watched-watches.ensures ∙ p.watches in
+      let stands : watches ≡ watches_of since (choices_of until) (units_of until files) = c.watched-watches.ensures ∙ p.watches in
       let wrote = Appends-kept (g.W.Sink.contents c.args.writer.now) (g.W.Sink.contents c.write_told.new.out) (g.W.Sink.contents c.flush_all.new.self) (told_lines c.args.layout c.args.listing.listed told.rows.listed told.watches) c.in_default.ensures.ok c.flush_all.ensures.bytes in
       record {
         written = subst (Appends (g.W.Sink.contents c.args.writer.now) (g.W.Sink.contents c.flush_all.new.self))
@@ -64,9 +65,9 @@ returns-clause-promised g c = record {
           units = p.units_counted;
           aside = p.aside_counted;
           damaged = damaged_told since until files c.as_slice-refused.result.now watches _ c.count_faults.result (c.as_slice-refused.ensures.value ∙ p.refused_kept) refl stands c.count_faults.ensures;
-          routes = routes_told since until files watches c.count_routes.result stands c.count_routes.ensures;
-          peers = peers_told since until.prefixes (units_of until files) watches _ stands (sym (length-map c.watched-watches.result.now watch_in));
-          rounds = no_rounds (request_of g.F.Family.bits c.args.request.now) until.prefixes c.args.listing c.args.plan.now _ c.requires.history refl;
+          routes = routes_told since until files _ p.routes_counted;
+          peers = peers_told since (choices_of until) (units_of until files) watches _ stands (sym (length-map c.watched-watches.result.now watch_in));
+          rounds = no_rounds (request_of g.F.Family.bits c.args.request.now) (choices_of until) c.args.listing c.args.plan.now _ c.requires.history refl;
         };
       };
   flushed = flush_succeeded c.flush_all.result (sym c.is_err.ensures.value ∙ c.if-is_err.false) c.flush_all.ensures.flushed;

@@ -1,6 +1,7 @@
 use Rattle.std.proofs.Common.{sym, ap, ◌∙◌, subst, Err, refl}
 use Rattle.std.proofs.KnownBytes.{Keeps-refl, Appends-kept}
 use Rattle.std.specs.Io.KnownBytes.{Appends, Keeps}
+use Rattle.peer_units.specs.Choices.{choices_of}
 use Rattle.mrt_body.specs.Units.{units_of, refused_of}
 use Rattle.mrt_frame.specs.Writes.{WritesFront}
 use Rattle.mrt_frame.specs.declared.error.ReplayError.TheVariants as errors
@@ -59,8 +60,8 @@ returns-clause-promised g c = record {
           aside = p.aside_counted;
           damaged = damaged_counted until files tables c.damaged.result p.stands c.damaged.ensures;
           routes = routes_counted until files tables c.routes.result p.stands c.routes.ensures;
-          peers = peers_counted until.prefixes (units_of until files) (refused_of until files) tables c.peers.result p.stands c.peers.ensures;
-          rounds = rounds_of_tables (request_of g.F.Family.bits c.args.request.now) until.prefixes c.args.plan.now _ c.requires.tables (record { few = p.few_rounds; two = p.two_rounds; enough = p.enough_rounds });
+          peers = peers_counted (choices_of until) (units_of until files) (refused_of until files) tables c.peers.result p.stands c.peers.ensures;
+          rounds = rounds_of_tables (request_of g.F.Family.bits c.args.request.now) (choices_of until) c.args.plan.now _ c.requires.tables (record { few = p.few_rounds; two = p.two_rounds; enough = p.enough_rounds });
         };
       };
   flushed = flush_succeeded c.flush_all.result (sym c.is_err.ensures.value ∙ c.if-is_err.false) c.flush_all.ensures.flushed;

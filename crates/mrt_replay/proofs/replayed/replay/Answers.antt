@@ -5,6 +5,7 @@ use Rattle.std.proofs.lemmas.List.{length-map}
 use Rattle.std.proofs.lemmas.Result.{err_from_is_err_and}
 use Rattle.peer_units.specs.Plain.{Unit as ReplayUnit}
 use Rattle.mrt_body.specs.Units.{units_of, refused_of, unit_of}
+use Rattle.peer_units.specs.Choices.{choices_of}
 use Rattle.peer_tables.specs.Tables.{chosen_tables}
 use Rattle.lane_deal.specs.Playing.{shown}
 use Rattle.lane_deal.specs.Replayers.{ReplayerStandsFor}
@@ -67,8 +68,8 @@ returns-clause-replayed g c contents known =
     c.rounds-rounds.ensures ∙ c.in-Ok.ensures.forks (ended_unspent s.state kept.2) in
     let at_most : c.rounds-rounds.result ≤ s.rounds + 1 = omega (arith, up) in
     record {
-      stands = c.in-Ok-retain.ensures ∙ ap (λ l. chosen_tables l c.in-Ok-into_tables.tables) (c.in_ok-chosen.ensures ∙ c.prefixes.ensures)
-          ∙ ap (chosen_tables until.prefixes) (c.in-Ok-into_tables.ensures.tables units refused four);
+      stands = c.in-Ok-retain.ensures ∙ ap (λ l. chosen_tables l c.in-Ok-into_tables.tables) (c.in_ok-chosen.ensures ∙ c.chosen.ensures)
+          ∙ ap (chosen_tables (choices_of until)) (c.in-Ok-into_tables.ensures.tables units refused four);
       records_counted = c.records.ensures ∙ records_taken start _ max until c.new-units.ensures.fresh contents told known (DealtAll (λ p w. law r.dealer.dealing.now p w) r.plan.ring) c.play.new.units (shown r) (shown s) played.taken empty cuts;
       units_counted = count;
       aside_counted = c.aside.ensures ∙ aside_taken start _ max until c.new-units.ensures.fresh contents told known (DealtAll (λ p w. law r.dealer.dealing.now p w) r.plan.ring) c.play.new.units (shown r) (shown s) played.taken empty cuts;

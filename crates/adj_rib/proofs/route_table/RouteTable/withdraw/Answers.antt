@@ -23,5 +23,5 @@ returns g c =
     let keep = g.N.Notes.keep in
     let kept = g.N.Notes.kept c.args.notes.now in
     withdrawn keep c.self.inside.routes (g.M.PrefixMap.contents c.self.inside.map) (g.M.PrefixMap.contents c.remove-old.new.self) c.args.key.now c.remove-old.result c.remove-old.ensures.before c.outcome_without-outcome.result c.args.churn.now c.count.new.self c.count.ensures kept (g.N.Notes.kept c.note.new.self) c.remove-old.ensures.removed c.outcome_without-outcome.ensures
-    (c.in_ok-note.ensures ∙ (λ i. keep kept (record { what = c.what.ensures i; key = c.args.key.now; route = c.route_of-route.ensures i })))
+    (c.in_ok-note.ensures ∙ (λ i. keep kept (record { what = c.what.ensures i; key = c.args.key.now; route = c.route_of-route.ensures i; before = c.route_of-route.ensures i })))
     ∙ ap (λ (m : RouteMap). applied_noting keep ((m, c.args.churn.now), kept) (withdraw c.args.key.now)) c.self.view_is

@@ -1,7 +1,7 @@
-use Rattle.std.proofs.Common.{◌∙◌, ap}
-use Rattle.adj_rib.specs.Applied.{RibState}
+use Rattle.std.proofs.Common.{◌∙◌}
 use Rattle.adj_rib.proofs.WatchLaws.{seen_as, watch_at_start}
+use Rattle.adj_rib.specs.Histories.{with_outcomes}
 use Rattle.adj_rib.proofs.watch.Watch.new.Goals as goal
 
 pub returns : goal.returns
-returns g c = λ since choices. ap (λ (k : RibState). seen_as k) c.new.ensures ∙ watch_at_start since choices
+returns g c = λ since choices. (λ i. seen_as (c.new.ensures i) (with_outcomes (c.new.ensures i).churn (c.new-2.ensures i))) ∙ watch_at_start since choices

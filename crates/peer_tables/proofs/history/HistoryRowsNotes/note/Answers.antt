@@ -6,7 +6,7 @@ use Rattle.bgp_prefix.specs.Prefixes.{IpPrefix}
 use Rattle.adj_rib.specs.Plain.{Note}
 use Rattle.peer_tables.specs.declared.history.RowUnit.{RowUnit}
 use Rattle.peer_tables.specs.declared.history.StoredRow.{StoredRow}
-use Rattle.peer_tables.specs.Histories.{RowState}
+use Rattle.peer_tables.specs.Histories.{RowState, noted_row}
 use Rattle.peer_tables.specs.Watching.{IsStored, RowsState, asked_row, keep_row, row_in}
 use Rattle.peer_tables.proofs.StoredRows.{all_stored, same_rows}
 use Rattle.peer_tables.proofs.history.HistoryRowsNotes.note.Goals as goal
@@ -30,8 +30,8 @@ returns g c =
     let block = c.stored_row.new.routes in
     let rows = c.self.inside.rows.items in
     let unit = c.in-Some.unit in
-    let note : Note = record { what = c.args.what; key = c.args.key.now; route = c.args.route.now } in
-    let row : RowState = record { time = unit.time; peer = unit.peer; by = unit.by; note = note } in
+    let note : Note = record { what = c.args.what; key = c.args.key.now; route = c.args.route.now; before = c.args._before.now } in
+    let row : RowState = noted_row unit.time unit.peer unit.by note in
     let listed : map (row_in block) c.push.new.self.items ≡ map (row_in before) rows ++ row ∷ [] =
     ap (map (row_in block)) c.in_ok-push.ensures.items ∙ map-append (row_in block) rows (c.in_ok-row.row ∷ [])
     ∙ (λ i. same_rows before block c.stored_row.ensures.stays rows c.self.invariant i ++ c.in_ok-row.ensures.row i ∷ []) in

@@ -11,12 +11,12 @@ pub returns-in-Text : goal.returns-in-Text
 returns-in-Text g c =
     let layout = c.args.layout.now in
     let row = row_state c.args.self.now in
-    Adds_as (history_in_parts Text layout row ∙ ap (λ f. line_by f (event_cells layout row ++ listed_cells layout row.note.route)) (sym c.in-Text.is))
+    Adds_as (history_in_parts Text layout row ∙ ap (λ f. line_by f (event_cells layout row ++ listed_cells layout row.route)) (sym c.in-Text.is))
     (Adds_trans c.put_text_event.ensures c.put_text_listed.ensures)
 
 pub returns-in-Json : goal.returns-in-Json
 returns-in-Json g c =
     let layout = c.args.layout.now in
     let row = row_state c.args.self.now in
-    Adds_as (history_in_parts Json layout row ∙ ap (λ f. line_by f (event_cells layout row ++ listed_cells layout row.note.route)) (sym c.in-Json.is))
+    Adds_as (history_in_parts Json layout row ∙ ap (λ f. line_by f (event_cells layout row ++ listed_cells layout row.route)) (sym c.in-Json.is))
     (Adds_trans c.put_json_event.ensures c.put_json_listed.ensures)
