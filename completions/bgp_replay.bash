@@ -17,13 +17,16 @@ _bgp_replay() {
     --attributes) mapfile -t COMPREPLY < <(compgen -W 'communities extended large originator clusters otc all' -- "$word"); return;;
     --workers) mapfile -t COMPREPLY < <(compgen -W '1 2 4 8 16 32 64' -- "$word"); return;;
     --ring) mapfile -t COMPREPLY < <(compgen -W '1 64 1024 65536' -- "$word"); return;;
-    --address|--prefix|--peer|--peers|--until|--since) return;;
+    --address|--prefix|--peer|--peers|--origin|--path|--community|--until|--since) return;;
   esac
   if [[ -z $command ]]; then
     mapfile -t COMPREPLY < <(compgen -W "$commands help --help --version" -- "$word")
   elif [[ $word == -* ]]; then
     local options='--files-from --family --prefix --prefixes --peer --peers --until --states --rib --format --addresses --attributes --header --summary --progress --quiet --workers --ring --help --version'
     case $command in match) options="--address $options";; esac
+    case $command in tables|visibility|origins|seen|churn|peers|match|history) options="--origin $options";; esac
+    case $command in tables|visibility|origins|seen|churn|peers|match|history) options="--path $options";; esac
+    case $command in tables|visibility|origins|seen|churn|peers|match|history) options="--community $options";; esac
     case $command in churn|history) options="--since $options";; esac
     case $command in history) options="--same $options";; esac
     mapfile -t COMPREPLY < <(compgen -W "$options" -- "$word")

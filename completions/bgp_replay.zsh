@@ -42,6 +42,9 @@ _bgp_replay() {
         '*:dump:_files'
       )
       case ${words[1]} in match) options+=('--address[look up this address, as 192.0.2.1, or 2001\:db8\:\:1 with --family ipv6]:A:');; esac
+      case ${words[1]} in tables|visibility|origins|seen|churn|peers|match|history) options+=('*--origin[report on routes of this origin AS alone]:AS:');; esac
+      case ${words[1]} in tables|visibility|origins|seen|churn|peers|match|history) options+=('*--path[report only on routes whose AS path matches this mask]:MASK:');; esac
+      case ${words[1]} in tables|visibility|origins|seen|churn|peers|match|history) options+=('*--community[report only on routes that have this community]:C:');; esac
       case ${words[1]} in churn|history) options+=('--since[list or count what was recorded from this second on]:TIME:');; esac
       case ${words[1]} in history) options+=('--same[list announcements of the very route that was there, too]');; esac
       _arguments $options;;

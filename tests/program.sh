@@ -624,6 +624,7 @@ try 3 'open failed: prefixes 2' nothing tables --prefixes two.txt --prefixes mis
 try 3 'read failed: prefixes 1' nothing tables --prefixes . eight
 for words in 'tables --prefixes' 'tables --prefixes two.txt'; do try 2 '?' nothing $words; done
 tip "  tip: '--since' is an option of churn, history" tables --since 5 eight
+tip "  tip: '--path' is an option of tables, visibility, origins, seen, churn, peers, match, history" faults --path '*' eight
 lists 'churn --prefixes two.txt' '65002 192.0.2.2|1|0|0|0|0|1|0|0|1010.000000|1040.000000'
 lists 'tables --until 1970-01-01T00:17:10Z --prefix 198.51.100.0/24' "$two_24"
 lists 'tables --until 1970-01-02 --prefix 203.0.113.0/24' "$one_203"

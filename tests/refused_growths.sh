@@ -54,7 +54,7 @@ tries() {
     by="--workers $1 --ring $2"
     for file in three-peers table-and-update; do
       for request in tables visibility origins seen churn peers history 'match --address 10.0.0.1' faults; do echo memory $step 1 $file $request $by $file; done
-      for request in tables seen peers 'history --same'; do echo memory $step 1 $file $request --prefix 10.0.0.0/8+ --prefix 10.0.0.0/7 --peer 65000 --peers 1/1 $by $file; done
+      for request in 'tables --origin 65000 --path 65000 --community 1:2' seen peers 'history --same'; do echo memory $step 1 $file $request --prefix 10.0.0.0/8+ --prefix 10.0.0.0/7 --peer 65000 --peers 1/1 $by $file; done
       for request in tables 'history --same'; do echo memory $step 1 $file $request --rib replace $by $file table-and-update; done
       echo memory-on $step 1 $file tables $by $file
       for kind in read-EIO read-EINTR; do echo $kind 1 1 $file tables $by $file; echo $kind 1 1 $file churn $by -; done

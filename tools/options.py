@@ -174,6 +174,11 @@ def owners_of(option):
     return option["commands"].split()
 
 
+def listed(names):
+    """Names as a sentence has them: `a`, `a and b`, `a, b and c`."""
+    return " and ".join([", ".join(names[:-1]), names[-1]] if names[1:] else names)
+
+
 # ---- the manual page
 
 def roff(text):
@@ -205,7 +210,7 @@ def man_part(options, commands):
         lines += [".TP", f'.BI {name} " {option["value"]}"' if option["value"] else f".B {name}"]
         lines += [filled(meaning_of(option) + ".")]
         if owners_of(option):
-            lines += [filled("Only with " + " and ".join(owners_of(option)) + ".")]
+            lines += [filled("Only with " + listed(owners_of(option)) + ".")]
     lines += [".TP", '.BR \\-h ", " \\-\\-help', "Print a help text, also after a command.", ".TP", '.BR \\-V ", " \\-\\-version']
     lines += ["Print the version, and in a second line what the build recorded."]
     return "\n".join(lines) + "\n"
@@ -246,10 +251,10 @@ def short_meaning_of(option):
 def readme_part(options, _commands):
     lines = ["| Option | Meaning |", "|---|---|"]
     for option in options:
-        owners = " and ".join(f"`{name}`" for name in owners_of(option))
+        owners = listed([f"`{name}`" for name in owners_of(option)])
         meaning = short_meaning_of(option).replace("|", "\\|") + (f"; with {owners} alone" if owners else "")
         lines.append(f"| {cell(option)} | {meaning} |")
-    lines += [f"| {name} | {meaning} |" for name, meaning in ALWAYS.items()]
+    lines += [f"| {', '.join(ALWAYS)} | Print a help text, or the version and what the build recorded; also without a command |"]
     return "\n".join(lines) + "\n"
 
 

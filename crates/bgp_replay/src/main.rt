@@ -185,11 +185,13 @@ fn selection_of<F: Unicast>(alloc: Global, job: &Job<F>) -> Result<Selection<F>,
       states = job.now.states;
       ribs = job.now.ribs;
       rules = rules_of F.family job.now.layout.attributes;
+      routes = job.now.routes;
     }) }
 {
     let choices = Vec::from_slice(alloc, &job.prefixes)?;
     let prefixes = ChosenPrefixes::new(alloc, choices)?;
     let peers = Vec::from_slice(alloc, &job.peers)?;
+    let routes = job.routes.copied(alloc)?;
     Ok(
         Selection::all(alloc)
             .up_to(job.until)
@@ -198,7 +200,8 @@ fn selection_of<F: Unicast>(alloc: Global, job: &Job<F>) -> Result<Selection<F>,
             .of_share(job.share)
             .by_states(job.states)
             .by_ribs(job.ribs)
-            .keeping(job.layout.attributes),
+            .keeping(job.layout.attributes)
+            .of_routes(routes),
     )
 }
 

@@ -33,6 +33,8 @@
 //! - Of a word that is no option, `clap` says how to pass it as a file. The refusal says so only where the word may
 //!   be one.
 //! - `--peer` and `--peers` choose peers by AS number and address, and a share of the peers. Their readers are tested.
+//! - `--origin`, `--path` and `--community` choose routes: a job has a `ChosenRoutes`, whose masks and patterns
+//!   `route_choice` reads. The attributes that its patterns are about are asked for as if `--attributes` named them.
 //! - `Records` counts records by their headers for `--summary`, through the bytes that the replay reads, and nothing in
 //!   the replay depends on it.
 //! - `Kind` is what a file's first eight bytes look like. Such a file is still cut as a dump, since nothing in a dump
@@ -58,6 +60,7 @@ mod options;
 mod peers;
 mod records;
 mod refusal;
+mod routes;
 mod words;
 mod wrap;
 
@@ -74,5 +77,6 @@ pub use mrt_names::RecordKind;
 pub use names::FileName;
 pub use peers::{read_peer, read_share};
 pub use records::{Aside, Records};
+pub use routes::read_origin;
 pub use words::{Asked, Job, Usage, read_words, standard_input_fault};
 pub use wrap::{read_width, wrapped};

@@ -49,7 +49,7 @@ pub struct CommandRow {
     pub examples: &'static [&'static str],
 }
 
-pub static OPTIONS: [OptionRow; 21] = [
+pub static OPTIONS: [OptionRow; 24] = [
     OptionRow {
         name: "address",
         value: "A",
@@ -119,6 +119,36 @@ pub static OPTIONS: [OptionRow; 21] = [
         commands: "",
         is_required: false,
         meaning: "Report on the Ith of N shares of the peers alone. N is at most 65536, and each peer is in one share",
+    },
+    OptionRow {
+        name: "origin",
+        value: "AS",
+        takes: Takes::Texts,
+        default: "",
+        offered: "",
+        commands: "tables visibility origins seen churn peers match history",
+        is_required: false,
+        meaning: "Report on routes of this origin AS alone. AS is a number, or - for routes that have no origin AS. history lists what happens to a key where its route after or before is one of them, and churn counts these lines; so it is for --path and --community. Given more than once, each AS adds to the others; where --path or --community is given, a route has to meet that, too",
+    },
+    OptionRow {
+        name: "path",
+        value: "MASK",
+        takes: Takes::Texts,
+        default: "",
+        offered: "",
+        commands: "tables visibility origins seen churn peers match history",
+        is_required: false,
+        meaning: "Report only on routes whose AS path matches this mask. MASK is words with blanks between that spell the whole path: an AS number, A..B for one of that range, ? for any one, and * for any number of them or none; '* 64496' is what 64496 originates. A set in the path takes one word, which has to match one of its numbers; [= and =] may stand round all words, and alone are the mask of an empty path. Given more than once, each mask adds to the others; where --origin or --community is given, a route has to meet that, too",
+    },
+    OptionRow {
+        name: "community",
+        value: "C",
+        takes: Takes::Texts,
+        default: "",
+        offered: "",
+        commands: "tables visibility origins seen churn peers match history",
+        is_required: false,
+        meaning: "Report only on routes that have this community. C is a community, as 65000:666; a large one, as 65000:1:2; or an extended one, as rt:65000:1, ro:192.0.2.1:1 or 0x and sixteen digits; each part may be * for any. Routes keep the attribute of its kind, as with --attributes: it is one more column at the end of tables, match and history, and routes that differ in it are two routes. Given more than once, each C adds to the others; where --origin or --path is given, a route has to meet that, too",
     },
     OptionRow {
         name: "until",
@@ -421,7 +451,7 @@ pub static COMMANDS: [CommandRow; 9] = [
         name: "tables",
         meaning: "Print every route of every peer",
         columns: ROUTE_COLUMNS,
-        order: "Peers come in the order in which the dumps first name them, and a peer's routes by prefix. Communities and five more attributes have columns with --attributes alone.",
+        order: "Peers come in the order in which the dumps first name them, and a peer's routes by prefix. Communities and five more attributes have columns where --attributes or --community asks for them.",
         examples: &[
             "tables --header rib.mrt updates.mrt",
             "tables --until 2024-01-01T01:00:00Z rib.mrt updates.mrt",
@@ -483,7 +513,7 @@ pub static COMMANDS: [CommandRow; 9] = [
         name: "match",
         meaning: "Print each peer's routes of the longest prefix that contains an address",
         columns: ROUTE_COLUMNS,
-        order: "Peers come in the order in which the dumps first name them; a peer without such a route has no line. Communities and five more attributes have columns with --attributes alone.",
+        order: "Peers come in the order in which the dumps first name them; a peer without such a route has no line. Communities and five more attributes have columns where --attributes or --community asks for them.",
         examples: &[
             "match --address 192.0.2.1 rib.mrt",
             "match --address 192.0.2.1 --until 1704070800 rib.mrt updates.mrt",

@@ -5,7 +5,7 @@ use peer_units::{PeerAddr, PeerChoice, Share};
 use std::net::Ipv6Addr;
 
 /// Returns the value of a decimal number below 2^32, without a sign and, except for 0 itself, without a leading zero.
-fn read_number(text: &str) -> Option<u32> {
+pub(crate) fn read_number(text: &str) -> Option<u32> {
     if text.len() > 1 && text.starts_with('0') {
         return None;
     }

@@ -14,12 +14,16 @@ use crate::commands::{closings, command};
 use crate::moment::read_second;
 use crate::peers::{read_peer, read_share};
 use crate::refusal::refusal_of;
+use crate::routes::{fault_of_mask, read_origin};
 use bgp_prefix::{Ipv6, Prefix};
 use bgp_update::{AttributeSet, FamilyMark, Unicast};
 use clap::error::ErrorKind;
 use clap::{ArgMatches, Error};
 use peer_units::{PeerChoice, PrefixChoice, RibRule, Share, StateRule};
 use report_request::{AddressForm, Format, Layout, LayoutOf, Request};
+use route_choice::{
+    ChosenRoutes, CommunityPattern, MaskError, PathMask, read_community, read_mask,
+};
 use std::alloc::{AllocError, AllocFailed, Global};
 
 static WORKERS_DEFAULT: usize = 4;
@@ -52,6 +56,8 @@ pub struct Job<F: Unicast = u32> {
     pub peers: Vec<PeerChoice>,
     /// The share of the peers that is chosen, or none for all.
     pub share: Option<Share>,
+    /// The routes that are chosen. The attributes that they need are among those of the layout.
+    pub routes: ChosenRoutes,
     /// Whether the columns' names come first.
     pub header: bool,
     /// Whether a summary of what was read goes to standard error.
@@ -223,11 +229,15 @@ fn ribs_of(alloc: Global, matches: &ArgMatches<'_>) -> Result<RibRule, Usage>
     }
 }
 
-/// Returns the further attributes of routes that are asked for.
-fn attributes_of(alloc: Global, matches: &ArgMatches<'_>) -> Result<AttributeSet, Usage>
+/// Returns the further attributes of routes that are asked for, those among them that the chosen routes need.
+fn attributes_of(
+    alloc: Global,
+    routes: &ChosenRoutes,
+    matches: &ArgMatches<'_>,
+) -> Result<AttributeSet, Usage>
     ensures { IfErr result IsRefusal }
 {
-    let mut asked = AttributeSet::none();
+    let mut asked = routes.attributes();
     if let Some(lists) = matches.get_strs("attributes") {
         for list in lists {
             match add_attributes(asked, list) {
@@ -281,7 +291,11 @@ fn address_form_of(
 }
 
 /// Returns how the lines of a report are written: the addresses of IPv6 routes are short (RFC 5952).
-fn layout_of<F: AddressText>(alloc: Global, matches: &ArgMatches<'_>) -> Result<LayoutOf<F>, Usage>
+fn layout_of<F: AddressText>(
+    alloc: Global,
+    routes: &ChosenRoutes,
+    matches: &ArgMatches<'_>,
+) -> Result<LayoutOf<F>, Usage>
     ensures { IfErr result IsRefusal }
 {
     let format = format_of(alloc, matches)?;
@@ -294,7 +308,7 @@ fn layout_of<F: AddressText>(alloc: Global, matches: &ArgMatches<'_>) -> Result<
             AddressFamily::Ipv6 => AddressForm::Short,
         },
         family: FamilyMark::new(),
-        attributes: attributes_of(alloc, matches)?,
+        attributes: attributes_of(alloc, routes, matches)?,
     })
 }
 
@@ -408,6 +422,84 @@ fn share_of(alloc: Global, matches: &ArgMatches<'_>) -> Result<Option<Share>, Us
     }
 }
 
+/// Returns the origin ASes that are chosen, `None` for routes that have none.
+fn origins_of(alloc: Global, matches: &ArgMatches<'_>) -> Result<Vec<Option<u32>>, Usage>
+    ensures { IfErr result IsRefusal }
+{
+    let mut origins = Vec::new(alloc);
+    if let Some(texts) = matches.get_strs("origin") {
+        for text in texts {
+            match read_origin(text) {
+                Some(origin) => origins.push(origin)?,
+                None => {
+                    return Err(Usage::Words(format!(in alloc;
+                        "error: invalid value '{text}' for '--origin <AS>': neither an AS number nor -\n  it may be 65001, or - for routes that have no origin AS\n"
+                    )?));
+                }
+            }
+        }
+    }
+    Ok(origins)
+}
+
+/// Refuses a text that is no mask, unless an allocation failed.
+fn no_mask(alloc: Global, text: &str, error: MaskError) -> Result<Usage, AllocError>
+    ensures { IfOk result IsRefusal }
+{
+    let Some(fault) = fault_of_mask(error) else {
+        return Ok(Usage::Memory);
+    };
+    Ok(Usage::Words(format!(in alloc;
+        "error: invalid value '{text}' for '--path <MASK>': {fault}\n  it may be '* 64496', '64496 *', '* 64496..64511 ? *' or '[= 64496 * =]': words with blanks between, for the whole path\n"
+    )?))
+}
+
+/// Returns the masks of which a chosen route's path matches one.
+fn paths_of(alloc: Global, matches: &ArgMatches<'_>) -> Result<Vec<PathMask>, Usage>
+    ensures { IfErr result IsRefusal }
+{
+    let mut masks = Vec::new(alloc);
+    if let Some(texts) = matches.get_strs("path") {
+        for text in texts {
+            match read_mask(alloc, text) {
+                Ok(mask) => masks.push(mask)?,
+                Err(error) => return Err(no_mask(alloc, text, error)?),
+            }
+        }
+    }
+    Ok(masks)
+}
+
+/// Returns the patterns of which one matches a community of a chosen route.
+fn communities_of(alloc: Global, matches: &ArgMatches<'_>) -> Result<Vec<CommunityPattern>, Usage>
+    ensures { IfErr result IsRefusal }
+{
+    let mut patterns = Vec::new(alloc);
+    if let Some(texts) = matches.get_strs("community") {
+        for text in texts {
+            match read_community(text) {
+                Some(pattern) => patterns.push(pattern)?,
+                None => {
+                    return Err(Usage::Words(format!(in alloc;
+                        "error: invalid value '{text}' for '--community <C>': neither a community, nor a large nor an extended one\n  it may be 65000:666, 65000:1:2, rt:65000:1, ro:192.0.2.1:1, or 0x and sixteen digits in lower case; each part may be *\n"
+                    )?));
+                }
+            }
+        }
+    }
+    Ok(patterns)
+}
+
+/// Returns the routes that are chosen.
+fn routes_of(alloc: Global, matches: &ArgMatches<'_>) -> Result<ChosenRoutes, Usage>
+    ensures { IfErr result IsRefusal }
+{
+    let origins = origins_of(alloc, matches)?;
+    let paths = paths_of(alloc, matches)?;
+    let communities = communities_of(alloc, matches)?;
+    Ok(ChosenRoutes::new(origins, paths, communities))
+}
+
 /// Returns the job on the routes of a family.
 fn job_of<F: AddressText>(
     alloc: Global,
@@ -417,7 +509,8 @@ fn job_of<F: AddressText>(
     ensures { IfErr result IsRefusal }
 {
     let request = request_of::<F>(alloc, name, matches)?;
-    let layout = layout_of::<F>(alloc, matches)?;
+    let routes = routes_of(alloc, matches)?;
+    let layout = layout_of::<F>(alloc, &routes, matches)?;
     let until = second_of(alloc, "until", matches)?;
     if is_never(&request, until) {
         return Err(refused(alloc, "error: --since is after --until\n")?);
@@ -458,6 +551,7 @@ fn job_of<F: AddressText>(
         lists,
         peers,
         share,
+        routes,
         header: matches.get_flag("header"),
         summary: matches.get_flag("summary"),
         progress: matches.get_flag("progress"),

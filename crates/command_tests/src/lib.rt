@@ -5,4 +5,6 @@
 #[cfg(test)]
 mod pieces;
 #[cfg(test)]
+mod routes;
+#[cfg(test)]
 mod words;
