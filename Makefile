@@ -120,6 +120,7 @@ scripts: $(BINARY)
 	python3 tests/history.py '$(BINARY)'
 	python3 tests/attributes.py '$(BINARY)'
 	python3 tests/json.py '$(BINARY)'
+	python3 tests/choices.py '$(BINARY)'
 	tests/build.sh
 	python3 tools/model_index.py --check
 	python3 tools/options.py --check

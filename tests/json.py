@@ -181,8 +181,13 @@ def asked_of(words):
     if words[0] not in ("tables", "match", "history"):
         return []
     for word, following in zip(words, [*words[1:], ""]):
-        if word == "--attributes" or word.startswith("--attributes="):
-            named.update((word.partition("=")[2] or following).split(","))
+        option, _, value = word.partition("=")
+        if option == "--attributes":
+            named.update((value or following).split(","))
+        elif option == "--community":  # it asks for the attribute of its kind
+            pattern = value or following
+            named.add("extended" if pattern.startswith(("0x", "rt:", "ro:")) else
+                      "large" if pattern.count(":") == 2 else "communities")
     return [name for name in ATTRIBUTES if named & {name, "all"}]
 
 
