@@ -7,6 +7,9 @@ import dataclasses
 import os
 from datetime import date, datetime, timezone
 
+import numpy
+import pandas
+
 from . import frames
 
 
@@ -57,6 +60,11 @@ def _peer(value):
     return str(value)
 
 
+def _origin(value):
+    """An origin AS; None, and what a frame has in its place, is that of the routes without one."""
+    return "-" if value is None or value is pandas.NA else str(value)
+
+
 def _share(value):
     number, count = value
     return f"{number}/{count}"
@@ -70,7 +78,8 @@ def _each(text_of):
     """One option for each value of a list; a value alone is a list of one."""
 
     def words(name, value):
-        values = value if isinstance(value, (list, set, frozenset)) or hasattr(value, "tolist") else [value]
+        is_list = isinstance(value, (list, set, frozenset)) or (hasattr(value, "tolist") and numpy.ndim(value) > 0)
+        values = value if is_list else [value]
         return [f"--{name}={text_of(one)}" for one in values]
 
     return words
@@ -86,6 +95,9 @@ OPTIONS = {
     "since": ("since", _one(_moment)),
     "prefixes": ("prefix", _each(str)),
     "peers": ("peer", _each(_peer)),
+    "origins": ("origin", _each(_origin)),
+    "paths": ("path", _each(str)),
+    "communities": ("community", _each(str)),
     "share": ("peers", _one(_share)),
     "address": ("address", _one(str)),
     "family": ("family", _one(str)),

@@ -83,8 +83,8 @@ def test_notes_of_collectors(sample):
             collectors.Collectors({"a": turned, "b": turned}, shares=shares, prefixes="203.0.113.0/24").churn()
         told = [str(one.message) for one in warned if "older" in str(one.message)]
         assert set(told) == wanted and len(told) == 2 and {one.filename for one in warned} == {__file__}
-    with pytest.raises(TypeError, match="there is no option 'communities'"):
-        bgp_replay.tables(sample, communities="65000:1")
+    with pytest.raises(TypeError, match="there is no option 'community'"):
+        bgp_replay.tables(sample, community="65000:1")
     with pytest.raises(bgp_replay.UsageError, match="'community' is no attribute"):
         bgp_replay.tables(sample, attributes="community")
 
