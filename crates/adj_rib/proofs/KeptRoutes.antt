@@ -1,62 +1,27 @@
 -- The entries of a table that are left where some keys and routes are chosen.
-use Rattle.std.proofs.Common.{◌≡◌, ℕ, ◌+◌, ◌<◌, Bool, true, false, cond, eqb, ◌&&◌, List, [], ◌∷◌, ◌++◌, length, set, get_or, take, Option, Some, None, T, refl, sym, ap, subst, ◌∙◌, eqb-true}
-use Rattle.std.specs.Prelude.{if◌then◌else◌, slice_get, unwrap_or}
+use Rattle.std.proofs.Common.{◌≡◌, ℕ, ◌+◌, ◌<◌, Bool, true, false, cond, ◌&&◌, List, [], ◌∷◌, ◌++◌, length, get_or, take, T, refl, sym, ap, subst, ◌∙◌}
+use Rattle.std.specs.Prelude.{if◌then◌else◌}
 use Rattle.std.specs.Borrow.{Bor}
-use Rattle.std.specs.List.{All, filter, fold}
+use Rattle.std.specs.List.{filter, fold}
 use Rattle.std.specs.FinMap as finite
 use Rattle.std.specs.FinMap.Entries.{is_sorted, below_all}
-use Rattle.std.proofs.lemmas.Bool.{eqb-false}
-use Rattle.std.proofs.lemmas.List.{get_or-set_same, get_or-set_other, length-set, map-append}
+use Rattle.std.proofs.lemmas.List.{map-append}
 use Rattle.std.proofs.lemmas.List.Elements.{filter-append}
 use Rattle.std.proofs.lemmas.List.Sums.{fold-append}
 use Rattle.std.proofs.lemmas.Grind.{take_at_read}
-use Rattle.std.proofs.lemmas.Option.{get_or_from_slice_get, slice_get-get_or, slice_get_within}
 use Rattle.bgp_prefix.specs.Keys.{RouteKey}
 use Rattle.bgp_prefix.specs.Keys.{key_cmp}
-use Rattle.bgp_prefix.proofs.KeyLaws.{key_cmp_total}
 use Rattle.bgp_prefix.proofs.SearchLaws.{first, second}
 use Rattle.bgp_update.specs.declared.route.Route.{Route}
-use Rattle.route_choice.specs.Choices.{RouteChoice, is_chosen_route}
 use Rattle.peer_units.specs.Choices.{Choices}
 use Rattle.adj_rib.specs.declared.routes.RouteId.{RouteId}
 use Rattle.adj_rib.specs.Applied.{RouteMap}
 use Rattle.adj_rib.specs.MappedValues.{put_entry}
-use Rattle.adj_rib.specs.Routes.{AreFound, AreNamed, IsNamed, named_routes, route_at, routes_now}
+use Rattle.adj_rib.specs.Routes.{AreNamed, IsNamed, named_routes, route_at, routes_now}
 use Rattle.adj_rib.specs.Selecting.{chosen_entries, is_chosen_entry}
 use Rattle.adj_rib.proofs.MappedValues.{map_values-insert}
 use Rattle.adj_rib.proofs.NamedRoutes.{AreNamed-insert, by_id}
 use Rattle.adj_rib.proofs.Refolded.{refolded}
-
--- ---- what was found of routes
-
-module _ (choice : RouteChoice) (bytes : List ℕ) (found : List (Option Bool)) (at : ℕ) (answer : Bool) where
-  same_cell : (known : Bool) → at < length found → slice_get (set found at (Some answer)) at ≡ Some (Some known) → answer ≡ known
-  same_cell known lt e =
-      ap (λ o. unwrap_or o known) (sym (get_or-set_same found at (Some answer) None lt) ∙ get_or_from_slice_get (set found at (Some answer)) at (Some known) None e)
-
-  other_cell : (i : ℕ) (known : Bool) → (i ≡ at → ⊥) → slice_get (set found at (Some answer)) i ≡ Some (Some known) → slice_get found i ≡ Some (Some known)
-  other_cell i known apart e =
-      let within : i < length found = subst (λ (n : ℕ). i < n) (length-set found at (Some answer)) (slice_get_within (set found at (Some answer)) i (Some known) e) in
-      slice_get-get_or found i None within
-      ∙ ap (λ o. Some o) (sym (get_or-set_other found at i (Some answer) None apart) ∙ get_or_from_slice_get (set found at (Some answer)) i (Some known) None e)
-
-  -- one more is found
-  pub AreFound-set : is_chosen_route choice (route_at bytes at) ≡ answer → at < length found → AreFound choice bytes found → AreFound choice bytes (set found at (Some answer))
-  AreFound-set is lt h i known e =
-      elim (eqb i at) as (λ b. eqb i at ≡ b → is_chosen_route choice (route_at bytes i) ≡ known) [
-        | true ↦ λ yes.
-            let here : i ≡ at = eqb-true i at yes in
-            ap (λ n. is_chosen_route choice (route_at bytes n)) here ∙ is ∙ same_cell known lt (subst (λ (n : ℕ). slice_get (set found at (Some answer)) n ≡ Some (Some known)) here e)
-        | false ↦ λ no. h i known (other_cell i known (eqb-false i at no) e)
-      ] refl
-
--- nothing is found yet
-pub AreFound-none : (choice : RouteChoice) (bytes : List ℕ) (found : List (Option Bool)) → All (λ known. known ≡ None) found → AreFound choice bytes found
-AreFound-none choice bytes found h at known e =
-    let there : get_or found at None ≡ Some known = get_or_from_slice_get found at (Some known) None e in
-    let none : get_or found at None ≡ None = h at None (slice_get_within found at (Some known) e) in
-    let clash : None ≡ Some known = sym none ∙ there in
-    absurd cc
 
 -- ---- the entries that are left
 

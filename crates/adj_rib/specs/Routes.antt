@@ -1,6 +1,6 @@
 -- A peer's routes in one block of bytes, in which a route is named by where it begins: a byte with the length of its
 -- packed bytes, or 255 and four bytes with it, and then these.
-use Rattle.std.specs.Prelude.{◌≡◌, ◌≢◌, ℕ, ◌+◌, ◌≤◌, Bool, List, [], ◌∷◌, nat_lt, drop, take, length, slice_index, IfSome, Option, Some, slice_get, map, ◌==◌, if◌then◌else◌}
+use Rattle.std.specs.Prelude.{◌≡◌, ◌≢◌, ℕ, ◌+◌, ◌≤◌, Bool, List, [], ◌∷◌, nat_lt, drop, take, length, slice_index, IfSome, map, ◌==◌, if◌then◌else◌}
 use Rattle.std.specs.Borrow.{Bor}
 use Rattle.std.specs.List.{All}
 use Rattle.std.specs.FinMap as finite
@@ -13,6 +13,7 @@ use Rattle.route_choice.specs.Choices.{RouteChoice, is_chosen_route}
 use Rattle.adj_rib.specs.MappedValues.{map_values}
 use Rattle.adj_rib.specs.declared.routes.RouteId.{RouteId}
 use Rattle.adj_rib.specs.declared.routes.IndexSlot.{IndexSlot}
+use Rattle.adj_rib.specs.declared.route_table.Found.{Found}
 
 -- whether the length is in four bytes of its own
 abbrev pub is_long : List ℕ → Bool
@@ -70,10 +71,12 @@ named_routes bytes ids = map_values (λ (id : RouteId). route_at bytes id.at) id
 abbrev pub AreNamed : List ℕ → finite.FinMap key_cmp RouteId → Type 0
 AreNamed bytes ids = (k : RouteKey) → IfSome (finite.get ids k) (λ id. IsNamed bytes id.at)
 
--- What was found of routes by their numbers says whether each is chosen.
-abbrev pub AreFound : RouteChoice → List ℕ → List (Option Bool) → Type 0
-AreFound choice bytes found =
-    (at : ℕ) (known : Bool) → slice_get found at ≡ Some (Some known) → is_chosen_route choice (route_at bytes at) ≡ known
+-- What was found of a route says whether it is chosen.
+abbrev pub IsFound : RouteChoice → List ℕ → Found → Type 0
+IsFound choice bytes known = is_chosen_route choice (route_at bytes known.at) ≡ known.is_chosen
+
+abbrev pub AreFound : RouteChoice → List ℕ → List Found → Type 0
+AreFound choice bytes found = All (IsFound choice bytes) found
 
 -- listed numbers, and the routes that they name
 abbrev pub ids_now : List (RouteKey × Bor RouteId) → List (RouteKey × RouteId)

@@ -9,7 +9,7 @@ ghost use Rattle.bgp_update.specs.Packing.{unpacked};
 ghost use Rattle.adj_rib.specs.declared.routes.RouteId.{RouteId as Id};
 ghost use Rattle.route_choice.specs.Choices.{is_chosen_route};
 ghost use Rattle.adj_rib.specs.Selecting.{chosen_entries, is_chosen_entry};
-ghost use Rattle.adj_rib.specs.Routes.{AreFound, AreNamed, IsNamed, named_routes, route_at, routes_now};
+ghost use Rattle.adj_rib.specs.Routes.{AreFound, AreNamed, IsFound, IsNamed, named_routes, route_at, routes_now};
 ghost use Rattle.adj_rib.specs.MappedValues.{put_entry};
 ghost use Rattle.adj_rib.specs.declared.outcome.Outcome.TheVariants.{Gone, Void};
 ghost use Rattle.adj_rib.specs.Steps.{announce, withdraw};
@@ -209,44 +209,62 @@ fn move_listed<F: Unicast, M: PrefixMap<RouteId, Addr = F> + Drop>(
     Ok((kept, moved))
 }
 
-/// Returns room for what is found of routes by their numbers, which are below this. Nothing is found yet.
-fn none_found(alloc: Global, numbers: usize) -> Result<Vec<Option<bool>>, Memory>
-    ensures { IfOk result (λ found. All (λ known. known ≡ None) found.items) }
+/// Whether the route of a number is chosen.
+#[derive(Clone, Copy)]
+struct Found {
+    at: u32,
+    is_chosen: bool,
+}
+
+/// How many bytes of routes have a cell for what was found last of those that begin there: few routes are shorter.
+const BYTES_OF_A_CELL: usize = 16;
+
+/// Finds whether the route of a number is chosen.
+fn find_chosen(chosen: &ChosenRoutes, routes: &Routes, id: RouteId) -> Found
+    requires { IsNamed routes.now id.at }
+    ensures found { IsFound chosen.now routes.now result }
+    ensures at { result.at ≡ id.at }
 {
-    let found = vec![in alloc; None; numbers]?;
+    let is_chosen = chosen.is_chosen(&routes.route(id));
+    Found {
+        at: id.at,
+        is_chosen,
+    }
+}
+
+/// Returns cells for what is found of routes by their numbers, which are below this. At first each has the same.
+fn make_cells(alloc: Global, numbers: usize, first: Found) -> Result<Vec<Found>, Memory>
+    ensures { IfOk result (λ found. All (λ known. known ≡ first) found.items) }
+{
+    let found = vec![in alloc; first; numbers / BYTES_OF_A_CELL + 1]?;
     Ok(found)
 }
 
-/// Whether the route of a number is chosen: what was found of it before, or what is found now.
-fn is_id_chosen(
-    chosen: &ChosenRoutes,
-    routes: &Routes,
-    found: &mut Vec<Option<bool>>,
-    id: RouteId,
-) -> bool
+/// Whether the route of a number is chosen: what was found of it, if its cell still has that, or what is found now.
+fn is_id_chosen(chosen: &ChosenRoutes, routes: &Routes, found: &mut Vec<Found>, id: RouteId) -> bool
     requires named { IsNamed routes.now id.at }
     requires found { AreFound chosen.now routes.now found.old.items }
     ensures chosen { result ≡ is_chosen_route chosen.now (route_at routes.now id.at) }
     ensures found { AreFound chosen.now routes.now found.new.items }
 {
-    let at = id.at as usize;
-    if let Some(cell) = found.get(at) {
-        if let Some(known) = *cell {
-            return known;
+    let cell = id.at as usize / BYTES_OF_A_CELL;
+    if let Some(known) = found.get(cell) {
+        if known.at == id.at {
+            return known.is_chosen;
         }
     }
-    let answer = chosen.is_chosen(&routes.route(id));
-    if at < found.len() {
-        found[at] = Some(answer);
+    let new = find_chosen(chosen, routes, id);
+    if cell < found.len() {
+        found[cell] = new;
     }
-    answer
+    new.is_chosen
 }
 
 /// Whether a key and the route of its number are chosen.
 fn is_entry_chosen<F: Unicast>(
     chosen: &Chosen<F>,
     routes: &Routes,
-    found: &mut Vec<Option<bool>>,
+    found: &mut Vec<Found>,
     key: &RouteKey<Prefix<F>>,
     id: RouteId,
 ) -> bool
@@ -256,6 +274,20 @@ fn is_entry_chosen<F: Unicast>(
     ensures found { AreFound chosen.now.routes routes.now found.new.items }
 {
     is_id_chosen(chosen.routes(), routes, found, id) && chosen.prefixes().takes(&key.prefix)
+}
+
+/// Adds a key with the number of its route. It is not inlined, since most choices leave few of many keys.
+#[inline(never)]
+fn keep<F: Unicast, M: PrefixMap<RouteId, Addr = F>>(
+    alloc: Global,
+    kept: &mut M,
+    key: &RouteKey<Prefix<F>>,
+    id: RouteId,
+) -> Result<(), Memory>
+    ensures { OnOk result (M.contents kept.new ≡ finite.insert (M.contents kept.old) key.now id) }
+{
+    kept.insert(alloc, key, id)?;
+    Ok(())
 }
 
 /// Adds a key with the number of its route, if it is chosen.
@@ -270,13 +302,13 @@ fn keep_if<F: Unicast, M: PrefixMap<RouteId, Addr = F>>(
         ≡ (if is_chosen then finite.insert (M.contents kept.old) key.now id else M.contents kept.old)) }
 {
     if is_chosen {
-        kept.insert(alloc, key, id)?;
+        keep(alloc, kept, key, id)?;
     }
     Ok(())
 }
 
 /// Returns a table of the listed numbers whose keys and routes are chosen. Each route is tested once, however many keys
-/// have it.
+/// have it, unless it shares its cell with another one.
 fn keep_listed<F: Unicast, M: PrefixMap<RouteId, Addr = F> + Drop>(
     alloc: Global,
     chosen: &Chosen<F>,
@@ -288,12 +320,15 @@ fn keep_listed<F: Unicast, M: PrefixMap<RouteId, Addr = F> + Drop>(
     ensures chosen { IfOk result (λ kept. named_routes routes.now (M.contents kept)
         ≡ fold put_entry finite.empty (chosen_entries chosen.now (routes_now routes.now listed.now))) }
 {
-    let mut found = none_found(alloc, routes.len())?;
     let mut kept = M::new(alloc);
+    if listed.is_empty() {
+        return Ok(kept);
+    }
+    let first = find_chosen(chosen.routes(), routes, *listed[0].1);
+    let mut found = make_cells(alloc, routes.len(), first)?;
     for entry in listed {
-        let (key, id) = *entry;
-        let is_chosen = is_entry_chosen(chosen, routes, &mut found, &key, *id);
-        keep_if(alloc, is_chosen, &mut kept, &key, *id)?;
+        let is_chosen = is_entry_chosen(chosen, routes, &mut found, &entry.0, *entry.1);
+        keep_if(alloc, is_chosen, &mut kept, &entry.0, *entry.1)?;
     }
     Ok(kept)
 }

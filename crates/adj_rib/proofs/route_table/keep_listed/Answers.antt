@@ -1,20 +1,31 @@
-use Rattle.std.proofs.Common.{◌≡◌, ◌∙◌, ap, sym, subst, take, if◌then◌else◌}
+use Rattle.std.proofs.Common.{◌∙◌, ap, sym, subst, take, length, List, eqb-true, if◌then◌else◌}
+use Rattle.std.proofs.lemmas.List.{nil_from_length}
 use Rattle.std.specs.List.{fold}
 use Rattle.std.specs.Borrow.{Bor}
 use Rattle.std.specs.FinMap as finite
 use Rattle.bgp_prefix.specs.Keys.{RouteKey}
+use Rattle.route_choice.specs.Choices.{RouteChoice}
 use Rattle.adj_rib.specs.declared.routes.RouteId.{RouteId}
 use Rattle.adj_rib.specs.Applied.{RouteMap}
 use Rattle.adj_rib.specs.MappedValues.{put_entry}
-use Rattle.adj_rib.specs.Routes.{IsNamed, route_at, routes_now}
+use Rattle.adj_rib.specs.Routes.{IsFound, IsNamed, route_at, routes_now}
 use Rattle.adj_rib.specs.Selecting.{chosen_entries}
-use Rattle.adj_rib.proofs.KeptRoutes.{AreFound-none, chosen_more, kept_more, named_more}
+use Rattle.adj_rib.proofs.KeptRoutes.{chosen_more, kept_more, named_more}
 use Rattle.adj_rib.proofs.NamedRoutes.{AreNamed-empty, named_routes-empty}
 use Rattle.adj_rib.proofs.route_table.keep_listed.Goals as goal
 
+pub returns-then-is_empty-clause-all : goal.returns-then-is_empty-clause-all
+returns-then-is_empty-clause-all g c = AreNamed-empty c.args.routes.now (g.M.PrefixMap.contents c.new-kept.result) c.new-kept.ensures
+
+pub returns-then-is_empty-clause-chosen : goal.returns-then-is_empty-clause-chosen
+returns-then-is_empty-clause-chosen g c =
+    named_routes-empty c.args.routes.now (g.M.PrefixMap.contents c.new-kept.result) c.new-kept.ensures
+    ∙ ap (λ (l : List (RouteKey × Bor RouteId)). fold put_entry finite.empty (chosen_entries c.args.chosen.now (routes_now c.args.routes.now l))) (sym (nil_from_length c.args.listed.now (eqb-true (length c.args.listed.now) 0 (sym c.is_empty.ensures ∙ c.if-is_empty.true))))
+
 pub loop-entry-init : goal.loop-entry-init
 loop-entry-init g c = record {
-  found = AreFound-none c.args.chosen.now.routes c.args.routes.now c.in_ok-found.found.items c.in_ok-found.ensures;
+  found = λ k d within. subst (IsFound c.args.chosen.now.routes c.args.routes.now) (sym (c.in_ok-found.ensures k d within))
+      (subst (λ (r : RouteChoice). IsFound r c.args.routes.now c.find_chosen-first.result) c.routes.ensures c.find_chosen-first.ensures.found);
   all = AreNamed-empty c.args.routes.now (g.M.PrefixMap.contents c.new-kept.result) c.new-kept.ensures;
   chosen = named_routes-empty c.args.routes.now (g.M.PrefixMap.contents c.new-kept.result) c.new-kept.ensures;
 }
