@@ -97,7 +97,7 @@ pub fn replay<F, M, T, R, D, G>(
     gate: &G,
 ) -> Result<Replayed<M>, ReplayError>
 where
-    F: Unicast + Send,
+    F: Unicast + Send + Sync,
     M: PrefixMap<RouteId, Addr = F> + Send + Drop,
     T: Threads + Sync,
     R: Source + Send,
@@ -128,7 +128,7 @@ where
     let Ok(mut tables) = replayer.into_tables(alloc) else {
         return Err(ReplayError::Memory);
     };
-    let Ok(()) = tables.retain(alloc, &chosen) else {
+    let Ok(()) = tables.retain(rt, alloc, plan.workers, &chosen) else {
         return Err(ReplayError::Memory);
     };
     Ok(Replayed {

@@ -1,5 +1,5 @@
 -- Where nothing is named all routes are chosen.
-use Rattle.std.proofs.Common.{◌≡◌, true, ◌&&◌, Option, ℕ, zero, suc, ◌+◌, ◌<◌, List, [], ◌∷◌, map, length, set, get_or, refl, sym, ap, ◌∙◌, arith}
+use Rattle.std.proofs.Common.{◌≡◌, true, ◌&&◌, Option, ℕ, List, [], ◌∷◌, map, refl, sym, ap, ◌∙◌}
 use Rattle.bgp_prefix.specs.Keys.{RouteKey}
 use Rattle.bgp_update.specs.declared.route.Route.{Route}
 use Rattle.route_choice.specs.declared.community.CommunityPattern.{CommunityPattern}
@@ -22,34 +22,6 @@ open_seats (s ∷ seats) =
 
 pub open_tables : (tables : TablesState) → chosen_tables every_choice tables ≡ tables
 open_tables tables = ap (λ l. record tables { seats = l }) (open_seats tables.seats)
-
--- ---- one seat after the other
-
--- the first seats with chosen routes alone, the others as they are
-abbrev pub chosen_first : Choices → ℕ → List Seat → List Seat
-chosen_first choices n [] = []
-chosen_first choices zero (s ∷ seats) = s ∷ seats
-chosen_first choices (suc n) (s ∷ seats) = chosen_seat choices s ∷ chosen_first choices n seats
-
-pub chosen_none : (choices : Choices) (seats : List Seat) → chosen_first choices 0 seats ≡ seats
-chosen_none choices [] = refl
-chosen_none choices (s ∷ seats) = refl
-
-pub chosen_all : (choices : Choices) (n : ℕ) (seats : List Seat) → n ≡ length seats → chosen_first choices n seats ≡ map (chosen_seat choices) seats
-chosen_all choices n [] e = refl
-chosen_all choices zero (s ∷ seats) e = absurd (omega (arith, e))
-chosen_all choices (suc n) (s ∷ seats) e = ap (λ (l : List Seat). chosen_seat choices s ∷ l) (chosen_all choices n seats (omega (arith, e)))
-
-next_from : (choices : Choices) (n : ℕ) (seats : List Seat) (d : Seat) → n < length seats → set (chosen_first choices n seats) n (chosen_seat choices (get_or (chosen_first choices n seats) n d)) ≡ chosen_first choices (suc n) seats
-next_from choices n [] d h = absurd (omega (arith, h))
-next_from choices zero (s ∷ seats) d h = ap (λ (l : List Seat). chosen_seat choices s ∷ l) (sym (chosen_none choices seats))
-next_from choices (suc n) (s ∷ seats) d h = ap (λ (l : List Seat). chosen_seat choices s ∷ l) (next_from choices n seats d (omega (arith, h)))
-
--- where the next one of seats becomes this one
-pub chosen_next : (choices : Choices) (n m : ℕ) (first seats : List Seat) (d : Seat) → seats ≡ chosen_first choices n first → n < length first → m ≡ n + 1 → set seats n (chosen_seat choices (get_or seats n d)) ≡ chosen_first choices m first
-chosen_next choices n m first seats d e h up =
-    let one : suc n ≡ m = omega (arith, up) in
-    ap (λ l. set l n (chosen_seat choices (get_or l n d))) e ∙ next_from choices n first d h ∙ ap (λ k. chosen_first choices k first) one
 
 -- what chooses all names nothing
 none_named : (prefixes : List PrefixChoice) (origins : List (Option ℕ)) (paths : List (List PathStep)) (communities : List CommunityPattern)

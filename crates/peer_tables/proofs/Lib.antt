@@ -8,3 +8,4 @@ pub mod HistoryLaws
 pub mod WatchLaws
 pub mod StoredRows
 pub mod PeerPositions
+pub mod Retained

@@ -8,12 +8,14 @@ ghost use Rattle.peer_tables.specs.Tables.{Seat, TablesState, IsCollected, all_f
 ghost use Rattle.peer_tables.specs.Gathers.{gathered_seats};
 ghost use Rattle.peer_tables.specs.Seats.{seat_of};
 
+use crate::retaining::{Retains, retain_all};
 use adj_rib::{RouteId, Session};
 use bgp_prefix::{Memory, PrefixMap, Sequence};
 use bgp_update::Unicast;
 use peer_units::{Chosen, Damage, PeerKey};
 use std::alloc::Global;
-use std::marker::Model;
+use std::marker::{Model, Sync};
+use std::thread::Threads;
 
 /// A session under its peer's number.
 #[derive(Drop)]
@@ -90,32 +92,40 @@ impl<F: Unicast, M: PrefixMap<RouteId, Addr = F>> Tables<M> {
     }
 }
 
-impl<F: Unicast, M: PrefixMap<RouteId, Addr = F> + Drop> Tables<M> {
-    /// Removes the routes of prefixes that aren't chosen, and those that aren't chosen themselves.
+impl<F: Unicast + Sync, M: PrefixMap<RouteId, Addr = F> + Send + Drop> Tables<M> {
+    /// Removes the routes of prefixes that aren't chosen, and those that aren't chosen themselves. The sessions are
+    /// shared among so many workers, each in its own thread if one can be started.
     #[tactic(auto, using(crate::proofs::ChosenLaws::open_tables))]
-    pub fn retain(&mut self, alloc: Global, chosen: &Chosen<F>) -> Result<(), Memory>
+    pub fn retain<R: Threads + Sync>(
+        &mut self,
+        rt: &R,
+        alloc: Global,
+        workers: usize,
+        chosen: &Chosen<F>,
+    ) -> Result<(), Memory>
         ensures { OnOk result (self.new ≡ chosen_tables chosen.now self.old) }
     {
         if chosen.is_open() {
             return Ok(());
         }
-        retain_seats(alloc, chosen, &mut self.seats)
+        retain_all(rt, alloc, workers, chosen, &mut self.seats)
     }
 }
 
-/// Removes the routes that aren't chosen, or not their prefixes, from each session.
-#[tactic(auto, using(crate::proofs::ChosenLaws::chosen_none, crate::proofs::ChosenLaws::chosen_all))]
-fn retain_seats<F: Unicast, M: PrefixMap<RouteId, Addr = F> + Drop>(
-    alloc: Global,
-    chosen: &Chosen<F>,
-    seats: &mut [Seated<M>],
-) -> Result<(), Memory>
-    ensures { OnOk result (map seat_of seats.new ≡ map (chosen_seat chosen.now) (map seat_of seats.old)) }
-{
-    for at in 0..seats.len() {
-        seats[at].session.retain(alloc, chosen)?;
+impl<F: Unicast, M: PrefixMap<RouteId, Addr = F> + Drop> Retains<Chosen<F>> for Seated<M> {
+    ghost use Rattle.std.specs.Prelude.{◌≡◌};
+    ghost use Rattle.peer_tables.specs.Tables.{chosen_seat};
+    ghost use Rattle.peer_tables.specs.Seats.{seat_of};
+
+    ghost retained = { λ choices before after. seat_of after ≡ chosen_seat choices (seat_of before) };
+
+    fn retain(&mut self, alloc: Global, chosen: &Chosen<F>) -> Result<(), Memory> {
+        self.session.retain(alloc, chosen)
     }
-    Ok(())
+
+    fn routes(&self) -> usize {
+        self.session.table().len()
+    }
 }
 
 /// Returns the number of routes in the tables of these sessions. Saturates at `u64::MAX`.

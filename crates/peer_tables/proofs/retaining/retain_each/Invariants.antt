@@ -1,7 +1,5 @@
-use Rattle.std.proofs.Common.{◌≡◌, map}
-use Rattle.peer_tables.specs.Seats.{seat_of}
-use Rattle.peer_tables.proofs.ChosenLaws.{chosen_first}
-use Rattle.peer_tables.proofs.tables.retain_seats.Given as goal
+use Rattle.peer_tables.proofs.Retained.{AreChanged}
+use Rattle.peer_tables.proofs.retaining.retain_each.Given as goal
 
 abbrev pub invariant-loop-at : goal.invariant-loop-at
-invariant-loop-at g l = map seat_of l.seats ≡ chosen_first l.chosen l.at (map seat_of l.initial.seats)
+invariant-loop-at g l = AreChanged (g.S.Retains.retained l.chosen) l.at l.initial.seats l.seats
