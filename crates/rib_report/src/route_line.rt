@@ -4,9 +4,9 @@ ghost use Rattle.std.specs.Prelude.{◌≡◌, ◌≤◌, ◌+◌, ◌<◌, [], 
 ghost use Rattle.rib_report.specs.Texts.{Adds};
 ghost use Rattle.ip_text.specs.Formats.{Formats};
 ghost use Rattle.rib_report.specs.Fields.{field, numbers_text};
-ghost use Rattle.report_request.specs.declared.format.Format.TheVariants.{Text};
-ghost use Rattle.rib_report.specs.Cells.{line_by};
-ghost use Rattle.rib_report.specs.Lines.{kind_text, path_text, route_line, row_cells};
+ghost use Rattle.report_request.specs.declared.format.Format.{Format as LineFormat};
+ghost use Rattle.report_request.specs.declared.format.Format.TheVariants.{Text, Json};
+ghost use Rattle.rib_report.specs.Lines.{kind_text, path_text, route_line};
 ghost use Rattle.rib_report.specs.LineParts.{attribute_fields, line_beginning, line_end};
 
 use crate::buffer::{put, put_attributes, put_peer_and_key};
@@ -158,20 +158,55 @@ pub(crate) fn put_text_route<T: Text, F: Unicast>(
     put_attributes(text, layout, route);
 }
 
-/// Adds the line of a route as text.
-#[inline(always)]
-fn put_text_row<T: Text, F: WrittenAddress>(
-    text: &mut T,
-    peer: &PeerText<F>,
-    key: &RouteKey<Prefix<F>>,
-    route: &RouteRef<'_>,
-)
-    ensures { Adds (T.state text.old) (T.state text.new) (line_by Text
-        (row_cells peer.now.layout (record { peer = peer.now.key; key = key.now; route = route.now }))) }
-{
-    put_peer_and_key(text, peer, key);
-    put_path(text, route.path());
-    put_attributes(text, peer.layout(), route);
+/// A format, chosen before the lines of many routes are made.
+pub(crate) trait RowFormat {
+    ghost format: { LineFormat };
+
+    /// Adds the line of a route.
+    fn put_row<T: Text, F: WrittenAddress>(
+        text: &mut T,
+        peer: &PeerText<F>,
+        key: &RouteKey<Prefix<F>>,
+        route: &RouteRef<'_>,
+    )
+        requires { peer.now.layout.format ≡ format }
+        ensures { Adds (T.state text.old) (T.state text.new)
+            (route_line peer.now.layout (record { peer = peer.now.key; key = key.now; route = route.now })) };
+}
+
+/// Fields with `|` between them.
+pub(crate) struct AsText;
+
+impl RowFormat for AsText {
+    ghost format = { Text };
+
+    #[inline(always)]
+    fn put_row<T: Text, F: WrittenAddress>(
+        text: &mut T,
+        peer: &PeerText<F>,
+        key: &RouteKey<Prefix<F>>,
+        route: &RouteRef<'_>,
+    ) {
+        put_peer_and_key(text, peer, key);
+        put_path(text, route.path());
+        put_attributes(text, peer.layout(), route);
+    }
+}
+
+/// A JSON object.
+pub(crate) struct AsJson;
+
+impl RowFormat for AsJson {
+    ghost format = { Json };
+
+    fn put_row<T: Text, F: WrittenAddress>(
+        text: &mut T,
+        peer: &PeerText<F>,
+        key: &RouteKey<Prefix<F>>,
+        route: &RouteRef<'_>,
+    ) {
+        put_json_row(text, peer, key, route);
+    }
 }
 
 /// Adds the line of a route.
@@ -185,7 +220,7 @@ pub(crate) fn put_row<T: Text, F: WrittenAddress>(
         (route_line peer.now.layout (record { peer = peer.now.key; key = key.now; route = route.now })) }
 {
     match peer.layout().format {
-        Format::Text => put_text_row(text, peer, key, route),
-        Format::Json => put_json_row(text, peer, key, route),
+        Format::Text => AsText::put_row(text, peer, key, route),
+        Format::Json => AsJson::put_row(text, peer, key, route),
     }
 }

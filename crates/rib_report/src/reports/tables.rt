@@ -20,7 +20,7 @@ ghost use Rattle.rib_report.specs.Texts.{Adds, IsOutput};
 use crate::buffer::TextBuffer;
 use crate::field::{PeerText, ShownPeer, ShownPeerOf};
 use crate::line::Line;
-use crate::route_line::put_row;
+use crate::route_line::{AsJson, AsText, RowFormat, put_row};
 use crate::text::{Text, TextWriter, finish};
 use crate::write::{NEAR_ROWS, next_rows, write_lines};
 use adj_rib::RouteId;
@@ -31,7 +31,7 @@ use mrt_frame::{ReplayError, Sink};
 use parallel::{LineBlocks, put_all_entries};
 use peer_tables::{Seated, Tables};
 use peer_units::PeerKey;
-use report_request::LayoutOf;
+use report_request::{Format, LayoutOf};
 use std::alloc::Global;
 use std::marker::Sync;
 use std::thread::Threads;
@@ -101,7 +101,21 @@ pub(crate) fn prefetch_entries<F: Family>(entries: &[(RouteKey<Prefix<F>>, Route
     next_rows(bytes)
 }
 
-/// Adds the lines of some entries of one peer.
+/// Adds the lines of some entries of one peer in a format.
+fn put_block_as<R: RowFormat, T: Text, F: WrittenAddress>(
+    text: &mut T,
+    peer: &PeerText<F>,
+    block: &[(RouteKey<Prefix<F>>, RouteRef<'_>)],
+)
+    requires { peer.now.layout.format ≡ R.format }
+    ensures { Adds (T.state text.old) (T.state text.new) (reached_lines peer.now block.now) }
+{
+    for entry in block {
+        R::put_row(text, peer, &entry.0, &entry.1);
+    }
+}
+
+/// Adds the lines of some entries of one peer. The format is asked once, and not at each line.
 fn put_block<T: Text, F: WrittenAddress>(
     text: &mut T,
     peer: &PeerText<F>,
@@ -109,8 +123,9 @@ fn put_block<T: Text, F: WrittenAddress>(
 )
     ensures { Adds (T.state text.old) (T.state text.new) (reached_lines peer.now block.now) }
 {
-    for entry in block {
-        put_row(text, peer, &entry.0, &entry.1);
+    match peer.layout().format {
+        Format::Text => put_block_as::<AsText, T, F>(text, peer, block),
+        Format::Json => put_block_as::<AsJson, T, F>(text, peer, block),
     }
 }
 

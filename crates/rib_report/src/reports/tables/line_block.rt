@@ -8,12 +8,13 @@ ghost use Rattle.rib_report.specs.LineBlocks.{IsFilled, lines_between, range_of}
 use super::{prefetch_entries, put_entries};
 use crate::buffer::TextBuffer;
 use crate::field::{PeerText, ShownPeerOf};
-use crate::route_line::put_row;
+use crate::route_line::{AsJson, AsText, RowFormat};
 use crate::text::{Text, TextAhead};
 use crate::write::NEAR_ROWS;
 use bgp_prefix::{Prefix, RouteKey};
 use bgp_update::RouteRef;
 use ip_text::WrittenAddress;
+use report_request::Format;
 
 /// The most bytes of a line in either format without the numbers of its path, and some more.
 const MOST_WITHOUT_PATH: usize = 640;
@@ -39,12 +40,13 @@ fn most_bytes(route: &RouteRef<'_>) -> usize {
         .saturating_add(MOST_WITHOUT_PATH)
 }
 
-/// Adds the lines of these entries, in order, while there should be room for one more. Returns how many.
-fn put_fitting<T: Text, F: WrittenAddress>(
+/// Adds the lines of these entries in a format, in order, while there should be room for one more. Returns how many.
+fn put_fitting_as<R: RowFormat, T: Text, F: WrittenAddress>(
     text: &mut T,
     peer: &PeerText<F>,
     entries: &[(RouteKey<Prefix<F>>, RouteRef<'_>)],
 ) -> usize
+    requires { peer.now.layout.format ≡ R.format }
     ensures few { result ≤ length entries.now }
     ensures lines { Adds (T.state text.old) (T.state text.new) (reached_lines peer.now (take result entries.now)) }
 {
@@ -54,9 +56,25 @@ fn put_fitting<T: Text, F: WrittenAddress>(
         if text.buffer().room() < most_bytes(route) {
             return at;
         }
-        put_row(text, peer, &entry.0, route);
+        R::put_row(text, peer, &entry.0, route);
     }
     entries.len()
+}
+
+/// Adds the lines of these entries, in order, while there should be room for one more. Returns how many. The format is
+/// asked once, and not at each line.
+fn put_fitting<T: Text, F: WrittenAddress>(
+    text: &mut T,
+    peer: &PeerText<F>,
+    entries: &[(RouteKey<Prefix<F>>, RouteRef<'_>)],
+) -> usize
+    ensures few { result ≤ length entries.now }
+    ensures lines { Adds (T.state text.old) (T.state text.new) (reached_lines peer.now (take result entries.now)) }
+{
+    match peer.layout().format {
+        Format::Text => put_fitting_as::<AsText, T, F>(text, peer, entries),
+        Format::Json => put_fitting_as::<AsJson, T, F>(text, peer, entries),
+    }
 }
 
 /// Adds the lines of entries from one to before another, while there should be room for one more. Returns the first

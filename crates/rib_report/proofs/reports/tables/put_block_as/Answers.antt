@@ -1,7 +1,7 @@
 use Rattle.rib_report.specs.Lines.{route_line}
 use Rattle.rib_report.specs.Reports.{entry_row}
 use Rattle.rib_report.proofs.JoinLaws.{Adds_item, Adds_items}
-use Rattle.rib_report.proofs.reports.tables.put_block.Goals as goal
+use Rattle.rib_report.proofs.reports.tables.put_block_as.Goals as goal
 
 pub loop-entry-preserved : goal.loop-entry-preserved
 loop-entry-preserved g c =

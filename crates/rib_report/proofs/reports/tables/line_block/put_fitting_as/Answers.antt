@@ -1,7 +1,7 @@
 use Rattle.rib_report.specs.Lines.{route_line}
 use Rattle.rib_report.specs.Reports.{entry_row}
 use Rattle.rib_report.proofs.JoinLaws.{Adds_item}
-use Rattle.rib_report.proofs.reports.tables.line_block.put_fitting.Goals as goal
+use Rattle.rib_report.proofs.reports.tables.line_block.put_fitting_as.Goals as goal
 
 pub loop-at-preserved : goal.loop-at-preserved
 loop-at-preserved g c =
