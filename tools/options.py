@@ -26,7 +26,6 @@ USAGE = "docs/USAGE.md"
 README = "README.md"
 PAGE_MARKS = ("<!-- options: made by tools/options.py -->\n", "<!-- end of options -->\n")
 
-
 def fail(why):
     sys.exit(f"tools/options.py: {why}")
 
@@ -389,10 +388,17 @@ def reports():
     text = read(COLUMNS)
     keys = dict(re.findall(r'Key::([A-Za-z]+) => "([a-z_]+)"', text))
     own = dict(re.findall(r'Column::([A-Za-z]+) => "([a-z_]+)"', text))
+
+    def listed(value):
+        found = re.findall(r"Column::(?:Of\(Key::([A-Za-z]+)\)|([A-Za-z]+))", value)
+        return [keys[key] if key else own[column] for key, column in found]
+
+    route = re.search(r"^macro_rules! and_route \{.*?^        \[(.*?)^        \]", text, re.M | re.S)
+    if not route:
+        fail(f"{COLUMNS} has no and_route")
     columns = {}
-    for name, value in re.findall(r"^const ([A-Z]+): \[Column; [0-9]+\] = \[([^]]*)\];", text, re.M):
-        listed = re.findall(r"Column::(?:Of\(Key::([A-Za-z]+)\)|([A-Za-z]+))", value)
-        columns[name.lower()] = [keys[key] if key else own[column] for key, column in listed]
+    for name, with_route, value in re.findall(r"^const ([A-Z]+): \[Column; [0-9]+\] = (and_route!)?\[([^]]*)\];", text, re.M):
+        columns[name.lower()] = listed(value) + (listed(route.group(1)) if with_route else [])
     columns["tables"] = columns["match"] = columns.pop("routes")
     return columns
 

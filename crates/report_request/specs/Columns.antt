@@ -84,14 +84,18 @@ column_keys (column.Of k) = k ∷ []
 abbrev pub of : Key → Column
 of k = column.Of k
 
--- those of a route behind its key
+-- those of a route behind its path
 abbrev pub attribute_columns : List Column
 attribute_columns =
-    column.Path ∷ of key.NextHop ∷ of key.Origin ∷ of key.Med ∷ of key.LocalPref ∷ of key.Atomic ∷ column.Aggregator ∷ []
+    of key.NextHop ∷ of key.Origin ∷ of key.Med ∷ of key.LocalPref ∷ of key.Atomic ∷ column.Aggregator ∷ []
+
+-- those of a route: its key, its path, and its attributes
+abbrev pub route_columns : List Column
+route_columns = column.RouteKey ∷ column.Path ∷ attribute_columns
 
 -- those that a report has in any case
 abbrev pub columns_of : {A : Type 0} → RequestOf A → List Column
-columns_of Tables = column.Peer ∷ column.RouteKey ∷ attribute_columns
+columns_of Tables = column.Peer ∷ route_columns
 columns_of Visibility = of key.Prefix ∷ of key.Peers ∷ []
 columns_of Origins = of key.Prefix ∷ column.Origins ∷ []
 columns_of Seen = of key.Prefix ∷ column.OriginAs ∷ of key.Peers ∷ []
@@ -101,7 +105,6 @@ columns_of (Churn since) =
 columns_of Peers =
     column.Peer ∷ of key.State ∷ of key.Routes ∷ of key.Units ∷ of key.First ∷ of key.Last ∷ of key.File ∷ of key.Offset
     ∷ of key.Entry ∷ []
-columns_of (Match addr) = column.Peer ∷ column.RouteKey ∷ attribute_columns
+columns_of (Match addr) = column.Peer ∷ route_columns
 columns_of Faults = of key.File ∷ of key.Offset ∷ of key.Entry ∷ of key.Number ∷ of key.Fault ∷ []
-columns_of (History since same) =
-    column.Time ∷ column.Peer ∷ of key.What ∷ of key.By ∷ column.RouteKey ∷ attribute_columns
+columns_of (History since same) = column.Time ∷ column.Peer ∷ of key.What ∷ of key.By ∷ route_columns

@@ -150,33 +150,32 @@ impl Column {
     }
 }
 
-/// The columns that each route has in `tables` and `match`.
-const ROUTES: [Column; 9] = [
-    Column::Peer,
-    Column::RouteKey,
-    Column::Path,
-    Column::Of(Key::NextHop),
-    Column::Of(Key::Origin),
-    Column::Of(Key::Med),
-    Column::Of(Key::LocalPref),
-    Column::Of(Key::Atomic),
-    Column::Aggregator,
-];
+/// Columns, and behind them those of a route: its key, and its attributes.
+macro_rules! and_route {
+    [$($column:expr),+] => {
+        [
+            $($column,)+
+            Column::RouteKey,
+            Column::Path,
+            Column::Of(Key::NextHop),
+            Column::Of(Key::Origin),
+            Column::Of(Key::Med),
+            Column::Of(Key::LocalPref),
+            Column::Of(Key::Atomic),
+            Column::Aggregator,
+        ]
+    };
+}
+
+/// The columns of `tables` and `match`.
+const ROUTES: [Column; 9] = and_route![Column::Peer];
 
 /// Those of `history`.
-const HISTORY: [Column; 12] = [
+const HISTORY: [Column; 12] = and_route![
     Column::Time,
     Column::Peer,
     Column::Of(Key::What),
-    Column::Of(Key::By),
-    Column::RouteKey,
-    Column::Path,
-    Column::Of(Key::NextHop),
-    Column::Of(Key::Origin),
-    Column::Of(Key::Med),
-    Column::Of(Key::LocalPref),
-    Column::Of(Key::Atomic),
-    Column::Aggregator,
+    Column::Of(Key::By)
 ];
 
 /// Those of `visibility`.
