@@ -17,10 +17,14 @@ use Rattle.rib_report.specs.Lines.{peer_text, key_text, attribute_cells}
 abbrev pub behind : ℕ → List (List ℕ) → List ℕ
 behind separator pieces = flat_map (λ p. separator ∷ p) pieces
 
+-- what a line of this text, or of these members, begins with
+abbrev pub front_as : Format → List ℕ → List ℕ → List ℕ
+front_as Text text object = text
+front_as Json text object = 123 ∷ object
+
 -- what a line begins with
 abbrev pub line_front : Format → List Cell → List ℕ
-line_front Text cells = join_with_byte 124 (texts cells)
-line_front Json cells = 123 ∷ join_with_byte 44 (all_members cells)
+line_front format cells = front_as format (join_with_byte 124 (texts cells)) (join_with_byte 44 (all_members cells))
 
 -- what it goes on with
 abbrev pub cells_behind : Format → List Cell → List ℕ

@@ -2,6 +2,7 @@
 
 ghost use Rattle.std.specs.Prelude.{◌≡◌, ℕ, ◌+◌, ◌≤◌, ◌<◌, ◌++◌, [], ◌∷◌, List, decimal, length};
 ghost use Rattle.rib_report.specs.Cells.{line_as, member, or_null, quoted};
+ghost use Rattle.rib_report.specs.LineParts.{front_as};
 ghost use Rattle.rib_report.specs.Lines.{addr_text, identifier, truth};
 ghost use Rattle.report_request.specs.declared.column.Key.TheVariants.{PathId, Prefix as PrefixKey};
 ghost use Rattle.rib_report.specs.Texts.{Adds};
@@ -291,6 +292,18 @@ macro_rules! prefix {
     };
 }
 
+/// The column of a route's key.
+macro_rules! route_key {
+    ($layout:expr, $key:expr) => {{
+        let layout = *$layout;
+        let key = $key;
+        $crate::cells::Cells {
+            text: $crate::field::ShownKey { key, layout },
+            json: $crate::cells::key_members(&layout, &key),
+        }
+    }};
+}
+
 /// Columns, one before the other. That of a peer, which has two members, stands before others.
 macro_rules! columns {
     (peer($layout:expr, $key:expr), $($rest:tt)+) => {{
@@ -335,6 +348,7 @@ pub(crate) use if_any;
 pub(crate) use number;
 pub(crate) use plain;
 pub(crate) use prefix;
+pub(crate) use route_key;
 pub(crate) use word;
 
 /// The members of a route's key.
@@ -372,6 +386,23 @@ pub(crate) fn key_members<F: WrittenAddress>(
 }
 
 // ---- lines
+
+/// Adds these columns at the beginning of a line.
+#[inline(always)]
+pub(crate) fn put_front<T: Text, A: Field, B: Field>(
+    text: &mut T,
+    format: Format,
+    cells: Cells<A, B>,
+)
+    requires { (A.longest ≤ 1000) × (B.longest ≤ 1000) }
+    ensures { Adds (T.state text.old) (T.state text.new)
+        (front_as format (A.text_of cells.text) (B.text_of cells.json)) }
+{
+    match format {
+        Format::Text => put(text, cells.text),
+        Format::Json => put(text, Joined(Byte(b'{'), cells.json)),
+    }
+}
 
 /// Adds a line of these columns.
 #[inline(always)]

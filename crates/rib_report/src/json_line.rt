@@ -12,7 +12,7 @@ ghost use Rattle.rib_report.specs.LineParts.{cells_behind, line_end, line_front}
 ghost use Rattle.rib_report.specs.Texts.{Adds};
 
 use crate::buffer::put;
-use crate::cells::{Comma, Quoted, QuotedOrNull, ShownAddr, Truth, if_any, key_members, plain};
+use crate::cells::{Comma, QuotedOrNull, Truth, columns, if_any, plain, put_front, route_key};
 use crate::field::{Byte, Field, Joined, PeerText, format_next_hop};
 use crate::kept_columns::{put_line_end, put_route_end};
 use crate::route_line::put_segments;
@@ -215,16 +215,8 @@ fn put_json_front<T: Text, F: WrittenAddress>(
     ensures { Adds (T.state text.old) (T.state text.new)
         (line_front Json (peer_cell layout.now peer ∷ key_cell layout.now key.now ∷ [])) }
 {
-    let addr = ShownAddr {
-        addr: peer.addr,
-        form: layout.peer_addresses,
-    };
-    let behind = Comma(
-        plain!(Key::PeerIp, Quoted(addr)).json,
-        key_members(layout, key),
-    );
-    let members = Comma(plain!(Key::PeerAsn, peer.asn).json, behind);
-    put(text, Joined(Byte(b'{'), members));
+    let cells = columns!(peer(layout, peer), route_key!(layout, *key));
+    put_front(text, Format::Json, cells);
 }
 
 /// Adds the line of a route.

@@ -10,9 +10,8 @@ ghost use Rattle.report_request.specs.declared.format.Format.TheVariants.{Text, 
 ghost use Rattle.rib_report.specs.HistoryParts.{listed_behind};
 ghost use Rattle.rib_report.specs.Texts.{Adds, IsOutput};
 
-use crate::buffer::put;
-use crate::cells::{Comma, Quoted, ShownAddr, key_members, plain};
-use crate::field::{Byte, Field, Joined, Microseconds, ShownKey, ShownPeer};
+use crate::cells::{columns, plain, put_front, route_key, word};
+use crate::field::{Field, Microseconds};
 use crate::json_line::{put_json_route, put_no_route};
 use crate::kept_columns::put_line_end;
 use crate::line::{Line, RowList};
@@ -97,53 +96,23 @@ fn put_json_listed<T: Text, F: Unicast>(
     }
 }
 
-/// Adds the fields before those of the route.
-fn put_text_event<T: Text, F: WrittenAddress>(
+/// Adds the columns before those of the route.
+fn put_event<T: Text, F: WrittenAddress>(
     text: &mut T,
     layout: &LayoutOf<F>,
     row: &HistoryRow<'_, Prefix<F>>,
 )
-    ensures { Adds (T.state text.old) (T.state text.new) (line_front Text (event_cells layout.now (row_state row.now))) }
+    ensures { Adds (T.state text.old) (T.state text.new)
+        (line_front layout.now.format (event_cells layout.now (row_state row.now))) }
 {
-    let key = ShownKey {
-        key: row.key,
-        layout: *layout,
-    };
-    let event = (row.what, (row.by, key));
-    let peer = ShownPeer {
-        key: row.peer,
-        layout: *layout,
-    };
-    put(text, (Microseconds(row.time), (peer, event)));
-}
-
-/// Adds an opening brace and the members before those of the route.
-fn put_json_event<T: Text, F: WrittenAddress>(
-    text: &mut T,
-    layout: &LayoutOf<F>,
-    row: &HistoryRow<'_, Prefix<F>>,
-)
-    ensures { Adds (T.state text.old) (T.state text.new) (line_front Json (event_cells layout.now (row_state row.now))) }
-{
-    let addr = ShownAddr {
-        addr: row.peer.addr,
-        form: layout.peer_addresses,
-    };
-    let behind = Comma(
-        plain!(Key::PeerIp, Quoted(addr)).json,
-        Comma(
-            plain!(Key::What, Quoted(row.what)).json,
-            Comma(
-                plain!(Key::By, Quoted(row.by)).json,
-                key_members(layout, &row.key),
-            ),
-        ),
+    let cells = columns!(
+        plain!(Key::Timestamp, Microseconds(row.time)),
+        peer(layout, row.peer),
+        word!(Key::What, row.what),
+        word!(Key::By, row.by),
+        route_key!(layout, row.key)
     );
-    let members = Comma(
-        plain!(Key::Timestamp, Microseconds(row.time)).json,
-        Comma(plain!(Key::PeerAsn, row.peer.asn).json, behind),
-    );
-    put(text, Joined(Byte(b'{'), members));
+    put_front(text, layout.format, cells);
 }
 
 impl<F: WrittenAddress> Line<F> for HistoryRow<'_, Prefix<F>> {
@@ -157,15 +126,10 @@ impl<F: WrittenAddress> Line<F> for HistoryRow<'_, Prefix<F>> {
     }
 
     fn put<T: Text>(&self, text: &mut T, layout: &LayoutOf<F>) {
+        put_event(text, layout, self);
         match layout.format {
-            Format::Text => {
-                put_text_event(text, layout, self);
-                put_text_listed(text, *layout, &self.route);
-            }
-            Format::Json => {
-                put_json_event(text, layout, self);
-                put_json_listed(text, *layout, &self.route);
-            }
+            Format::Text => put_text_listed(text, *layout, &self.route),
+            Format::Json => put_json_listed(text, *layout, &self.route),
         }
     }
 }
