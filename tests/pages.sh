@@ -18,14 +18,14 @@ made() { # TOOL PAGE..: pages that the tool makes, each without a line of what i
   check "$tool: the pages as they are" python3 "$copy/tools/$tool" --check
   for page in "$@"; do
     cp "$copy/$page" "$work/before"
-    line=$(grep -nm 1 '^| .--until TIME\|--until|.*return\|-l until \|--until\[\|^- .is_selected' "$copy/$page" | cut -d : -f 1)
+    line=$(grep -nm 1 '^| .--until TIME\|--until|.*return\|-l until \|--until\[\|^- .is_selected\|^ *.peer.: PEER' "$copy/$page" | cut -d : -f 1)
     check "$tool: a line of $page" sed -i "${line:-none}d" "$copy/$page"
     python3 "$copy/tools/$tool" --check > "$work/said" 2>&1; check "$tool: $page without a line" [ $? = 1 ]
     check "$tool: it names $page" grep -qF "$page" "$work/said"
     check "$tool: it makes $page" python3 "$copy/tools/$tool"; check "$tool: as it was: $page" cmp "$work/before" "$copy/$page"
   done
 }
-made options.py README.md docs/USAGE.md completions/bgp_replay.{bash,fish,zsh}
+made options.py README.md docs/USAGE.md completions/bgp_replay.{bash,fish,zsh} python/bgp_replay/frames.py
 made model_index.py docs/DEFINITIONS.md
 
 names() { python3 "$copy/tools/names.py" --check > "$work/said" 2>&1; }

@@ -1,6 +1,7 @@
 #!/usr/bin/env python3
 """Writes what says the program's options, commands and columns again, from the tables of crates/command_line/src/options.rt: a part of
-man/bgp_replay.1, a table of docs/USAGE.md and one of README.md, and the completions.
+man/bgp_replay.1, a table of docs/USAGE.md and one of README.md, and the completions; and from the columns of
+crates/report_request/src/column.rt the table of their kinds in python/bgp_replay/frames.py.
 
     tools/options.py           writes them
     tools/options.py --check   compares with what is there; names each file that differs, and exits 1
@@ -25,6 +26,16 @@ MAN_MARKS = ('.\\" options: made by tools/options.py\n', '.\\" end of options\n'
 USAGE = "docs/USAGE.md"
 README = "README.md"
 PAGE_MARKS = ("<!-- options: made by tools/options.py -->\n", "<!-- end of options -->\n")
+FRAMES = "python/bgp_replay/frames.py"
+FRAMES_MARKS = ("# columns: made by tools/options.py\n", "# end of columns\n")
+# The kind of each column in FRAMES, by its name in COLUMNS: of a `Column`, a `Key` or a `KeptAttribute`.
+KINDS = {
+    "TIME": "Time First Last", "PEER": "Peer", "ROUTE_KEY": "RouteKey", "AGGREGATOR": "Aggregator", "ASNS": "Origins", "ASN": "OriginAs",
+    "TEXT": "Path NextHop What By State Fault Communities ExtendedCommunities LargeCommunities OriginatorId ClusterList",
+    "TEXT_IN_RUNS": "Prefix", "ORIGIN": "Origin", "ATOMIC": "Atomic", "NUMBER": "Med LocalPref Entry OnlyToCustomer",
+    "COUNT": "New Changed Same Gone Void Resets Idle Refused Routes Units Offset", "PEERS": "Peers", "FILE": "File", "FAULT_NUMBER": "Number",
+}
+
 
 def fail(why):
     sys.exit(f"tools/options.py: {why}")
@@ -384,32 +395,50 @@ def between(name, marks, part):
 
 
 def reports():
-    """The names of each report's columns, as crates/report_request/src/column.rt has them."""
+    """Each report's columns, as crates/report_request/src/column.rt has them: their names there and in text. Those of attributes follow
+    where a report lists routes."""
     text = read(COLUMNS)
     keys = dict(re.findall(r'Key::([A-Za-z]+) => "([a-z_]+)"', text))
     own = dict(re.findall(r'Column::([A-Za-z]+) => "([a-z_]+)"', text))
 
     def listed(value):
         found = re.findall(r"Column::(?:Of\(Key::([A-Za-z]+)\)|([A-Za-z]+))", value)
-        return [keys[key] if key else own[column] for key, column in found]
+        return [(key, keys[key]) if key else (column, own[column]) for key, column in found]
 
     route = re.search(r"^macro_rules! and_route \{.*?^        \[(.*?)^        \]", text, re.M | re.S)
     if not route:
         fail(f"{COLUMNS} has no and_route")
-    columns = {}
+    columns, routes = {}, set()
     for name, with_route, value in re.findall(r"^const ([A-Z]+): \[Column; [0-9]+\] = (and_route!)?\[([^]]*)\];", text, re.M):
         columns[name.lower()] = listed(value) + (listed(route.group(1)) if with_route else [])
-    columns["tables"] = columns["match"] = columns.pop("routes")
-    return columns
+        routes |= {name.lower()} if with_route else set()
+    columns = {"tables": columns["routes"], "match": columns.pop("routes"), **columns}
+    attributes = re.findall(r'KeptAttribute::([A-Za-z]+) => "([a-z_]+)"', text)
+    return columns, {name: attributes if name in routes | {"tables", "match"} else [] for name in columns}
 
 
 def check_columns(commands):
     """The columns that help tells of are those of the lines."""
-    columns = reports()
+    columns, _ = reports()
     for command in commands:
         told = [column["name"] for column in command["columns"]]
-        if told != columns.get(command["name"]):
-            fail(f"columns of {command['name']}: {SOURCE} has {told}, {COLUMNS} {columns.get(command['name'])}")
+        own = [name for _, name in columns.get(command["name"], [])]
+        if told != own:
+            fail(f"columns of {command['name']}: {SOURCE} has {told}, {COLUMNS} {own}")
+
+
+def frames_part():
+    """The kind of each column, by report and by the column's name in text."""
+    kinds = {column: kind for kind, names in KINDS.items() for column in names.split()}
+    lines = ["KINDS = {"]
+    columns, attributes = reports()
+    for report, own in columns.items():
+        for column, _ in own + attributes[report]:
+            if column not in kinds:
+                fail(f"{column} of {COLUMNS} has no kind")
+        told = " ".join(f'"{name}":\0{kinds[column]},' for column, name in own + attributes[report])
+        lines += [f'    "{report}": {{', *(" " * 8 + line.replace("\0", " ") for line in textwrap.wrap(told, 112)), "    },"]
+    return "\n".join([*lines, "}"]) + "\n"
 
 
 def main():
@@ -421,6 +450,7 @@ def main():
         MAN: between(MAN, MAN_MARKS, man_part(*tables)),
         USAGE: between(USAGE, PAGE_MARKS, usage_part(*tables)),
         README: between(README, PAGE_MARKS, readme_part(*tables)),
+        FRAMES: between(FRAMES, FRAMES_MARKS, frames_part()),
         "completions/bgp_replay.bash": bash(*tables),
         "completions/bgp_replay.fish": fish(*tables),
         "completions/bgp_replay.zsh": zsh(*tables),

@@ -92,48 +92,76 @@ def in_runs(texts):
 TEXT = Kind("category", _as_it_is)
 TEXT_IN_RUNS = Kind(object, lambda name, column, _files: {name: in_runs(column)})
 COUNT = Kind("uint64", _as_it_is)
+NUMBER = Kind("UInt32", _as_it_is)
+FAULT_NUMBER = Kind("uint8", _as_it_is)
+TIME = Kind("float64", _time)
+FILE = Kind("uint32", _file)
+PEER = Kind("category", _peer)
 PEERS = Kind("uint32", _as_it_is)
-ORIGIN_ASN = Kind("UInt32", lambda _name, column, _files: {"origin_asn": column})
-_NUMBER = Kind("UInt32", _as_it_is)
-_TIME = Kind("float64", _time)
-_ORIGIN = Kind(pandas.CategoricalDtype(["IGP", "EGP", "INCOMPLETE"]), _as_it_is)
-_ATOMIC = Kind("category", lambda name, column, _files: {name: column.notna().to_numpy()})
-_KEY = Kind("category", _key)
+ROUTE_KEY = Kind("category", _key)
+ASN = Kind("UInt32", lambda _name, column, _files: {"origin_asn": column})
+ASNS = Kind("category", _asns)
+ORIGIN = Kind(pandas.CategoricalDtype(["IGP", "EGP", "INCOMPLETE"]), _as_it_is)
+ATOMIC = Kind("category", lambda name, column, _files: {name: column.notna().to_numpy()})
+AGGREGATOR = Kind("category", _aggregator)
 
-# By the program's name of the column; one that isn't here is text.
+# By report, and by the program's name of the column.
+# columns: made by tools/options.py
 KINDS = {
-    "peer": Kind("category", _peer),
-    "prefix": _KEY,
-    "key": _KEY,
-    "origin": _ORIGIN,
-    "med": _NUMBER,
-    "local_pref": _NUMBER,
-    "atomic": _ATOMIC,
-    "aggregator": Kind("category", _aggregator),
-    "otc": _NUMBER,
-    "peers": PEERS,
-    "origins": Kind("category", _asns),
-    "first": _TIME,
-    "last": _TIME,
-    "time": _TIME,
-    "file": Kind("uint32", _file),
-    "offset": COUNT,
-    "entry": _NUMBER,
-    "number": Kind("uint8", _as_it_is),
-    "routes": COUNT,
-    "units": COUNT,
-} | {name: COUNT for name in ("new", "changed", "same", "gone", "void", "resets", "idle", "refused")}
+    "tables": {
+        "peer": PEER, "prefix": ROUTE_KEY, "as_path": TEXT, "next_hop": TEXT, "origin": ORIGIN, "med": NUMBER,
+        "local_pref": NUMBER, "atomic": ATOMIC, "aggregator": AGGREGATOR, "communities": TEXT, "extended": TEXT,
+        "large": TEXT, "originator": TEXT, "clusters": TEXT, "otc": NUMBER,
+    },
+    "match": {
+        "peer": PEER, "prefix": ROUTE_KEY, "as_path": TEXT, "next_hop": TEXT, "origin": ORIGIN, "med": NUMBER,
+        "local_pref": NUMBER, "atomic": ATOMIC, "aggregator": AGGREGATOR, "communities": TEXT, "extended": TEXT,
+        "large": TEXT, "originator": TEXT, "clusters": TEXT, "otc": NUMBER,
+    },
+    "history": {
+        "time": TIME, "peer": PEER, "what": TEXT, "by": TEXT, "prefix": ROUTE_KEY, "as_path": TEXT, "next_hop": TEXT,
+        "origin": ORIGIN, "med": NUMBER, "local_pref": NUMBER, "atomic": ATOMIC, "aggregator": AGGREGATOR,
+        "communities": TEXT, "extended": TEXT, "large": TEXT, "originator": TEXT, "clusters": TEXT, "otc": NUMBER,
+    },
+    "visibility": {
+        "prefix": TEXT_IN_RUNS, "peers": PEERS,
+    },
+    "origins": {
+        "prefix": TEXT_IN_RUNS, "origins": ASNS,
+    },
+    "seen": {
+        "prefix": TEXT_IN_RUNS, "origin": ASN, "peers": PEERS,
+    },
+    "churn": {
+        "peer": PEER, "new": COUNT, "changed": COUNT, "same": COUNT, "gone": COUNT, "void": COUNT, "resets": COUNT,
+        "idle": COUNT, "refused": COUNT, "first": TIME, "last": TIME,
+    },
+    "peers": {
+        "peer": PEER, "state": TEXT, "routes": COUNT, "units": COUNT, "first": TIME, "last": TIME, "file": FILE,
+        "offset": COUNT, "entry": NUMBER,
+    },
+    "faults": {
+        "file": FILE, "offset": COUNT, "entry": NUMBER, "number": FAULT_NUMBER, "fault": TEXT,
+    },
+}
+# end of columns
+_KINDS_BY_NAME = {name: kind for kinds in reversed(KINDS.values()) for name, kind in kinds.items()}
+
+
+def kinds_of(report):
+    """The kinds of a report's columns; of one that isn't in the table, by name alone. A column that has none is text."""
+    return KINDS.get(report, _KINDS_BY_NAME)
 
 
 def pieces(kinds, stream, rows=ROWS):
     """Frames of successive lines, as the program wrote them below its header, with its own names of columns.
 
-    `kinds` are those of this report alone. The first frame comes even if there is no line, unless there is no header.
+    `kinds` are those of the report's columns. The first frame comes even if there is no line, unless there is no header.
     """
     names = stream.readline().decode().rstrip("\n").split("|")
     if names == [""]:
         return
-    dtypes = {name: (KINDS | kinds).get(name, TEXT).dtype for name in names}
+    dtypes = {name: kinds.get(name, TEXT).dtype for name in names}
     options = dict(sep="|", header=None, names=names, dtype=dtypes, na_values=["-"], keep_default_na=False, quoting=3,
                    skip_blank_lines=False, engine="c", chunksize=rows, low_memory=False, float_precision="round_trip")
     count = 0
@@ -165,5 +193,5 @@ def shaped(kinds, frame, files):
     """A frame as users get it: numbers, categories, times and lists in place of texts that have to be taken apart."""
     columns = {}
     for name in frame.columns:
-        columns |= (KINDS | kinds).get(name, TEXT).columns(name, frame[name], files)
+        columns |= kinds.get(name, TEXT).columns(name, frame[name], files)
     return pandas.DataFrame(columns)

@@ -10,12 +10,10 @@ from datetime import date, datetime, timezone
 import numpy
 import pandas
 
-from . import frames
-
 
 @dataclasses.dataclass(frozen=True)
 class Report:
-    """How a report's frames of several runs are put together, and which of its columns mean what no other report's do.
+    """How a report's frames of several runs are put together.
 
     `merge` is how: "rows" one after the other, "sum" by key with `peers` added up, "list" each row once, by place.
     `is_by_peer` says that its rows come by peer, in the order of the peers' first units, so that the shares of a
@@ -23,17 +21,15 @@ class Report:
     """
 
     merge: str
-    kinds: dict = dataclasses.field(default_factory=dict)
     is_by_peer: bool = False
     is_divided: bool = True
 
 
-_PREFIXES = {"prefix": frames.TEXT_IN_RUNS}  # in order
 REPORTS = {
     "tables": Report("rows", is_by_peer=True),
-    "visibility": Report("sum", _PREFIXES),
-    "seen": Report("sum", _PREFIXES | {"origin": frames.ORIGIN_ASN}),
-    "origins": Report("seen", _PREFIXES),
+    "visibility": Report("sum"),
+    "seen": Report("sum"),
+    "origins": Report("seen"),
     "churn": Report("rows", is_by_peer=True),
     "match": Report("rows", is_by_peer=True),
     "faults": Report("list"),

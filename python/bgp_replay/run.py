@@ -15,7 +15,7 @@ import warnings
 
 from . import frames
 from .errors import DamagedError, DamagedWarning, NoteWarning, UnpackError, error_of
-from .reports import OPTIONS, REPORTS, Report, names_of, words_of
+from .reports import OPTIONS, names_of, words_of
 from .summary import read_summary
 from .unpacking import MAGIC, Unpacking, packing
 
@@ -86,7 +86,7 @@ class Replay:
             raise ValueError("damaged is one of 'warn', 'raise' and 'ignore'")
         self.report, self.files, self.rows = report, names_of(files), rows
         self.damaged, self.unpackers, self.options = damaged, unpackers, words_of(options)
-        self.kinds = REPORTS.get(report, Report("rows")).kinds
+        self.kinds = frames.kinds_of(report)
         self.summary = self.said = self.notes = self.cut = self.unpacking = self.child = None
 
     def _words(self, listed):
