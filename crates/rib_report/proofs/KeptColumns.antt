@@ -1,11 +1,10 @@
 -- The columns of attributes that are asked for.
-use Rattle.std.proofs.Common.{◌≡◌, ℕ, zero, suc, ◌+◌, ◌*◌, ◌/◌, ◌<◌, ◌≤◌, ◌∷◌, ◌++◌, List, [], Bool, true, sym, ap, ◌∙◌, subst, refl, append_assoc, append-nil, length, take, drop, map, arith, length-drop}
+use Rattle.std.proofs.Common.{◌≡◌, ℕ, suc, ◌+◌, ◌*◌, ◌/◌, ◌≤◌, ◌∷◌, ◌++◌, List, [], Bool, true, sym, ap, ◌∙◌, subst, refl, append_assoc, append-nil, length, take, drop, map, arith, length-drop}
 use Rattle.std.proofs.lemmas.Bool.{eqb-true}
 use Rattle.std.proofs.Math.Nat.{div-mul-le_self}
 use Rattle.std.specs.List.{flat_map}
 use Rattle.bgp_update.specs.declared.kept_attribute.AttributeSet.{AttributeSet}
 use Rattle.bgp_update.specs.declared.kept_attribute.KeptAttribute.{KeptAttribute}
-use Rattle.bgp_update.specs.declared.kept_attribute.KeptAttribute.TheVariants.{Communities, ExtendedCommunities, LargeCommunities, OriginatorId, ClusterList, OnlyToCustomer}
 use Rattle.bgp_update.specs.KeptAttributes.{KeptValue, is_empty, kept_form}
 use Rattle.std.specs.List.{join_with_byte}
 use Rattle.std.specs.Prelude.{decimal, slice_index}
@@ -35,14 +34,6 @@ no_columns Text asked kept none = subst (λ (n : ℕ). line_end Text (record { b
 no_columns Json asked kept none = subst (λ (n : ℕ). line_end Json (record { bits = n }) kept ≡ 125 ∷ 10 ∷ []) (sym (eqb-true asked.bits 0 none)) refl
 
 -- ---- members
-
-pub member_has_bytes : (a : KeptAttribute) → 0 < (kept_form a).size
-member_has_bytes Communities = omega arith
-member_has_bytes ExtendedCommunities = omega arith
-member_has_bytes LargeCommunities = omega arith
-member_has_bytes OriginatorId = omega arith
-member_has_bytes ClusterList = omega arith
-member_has_bytes OnlyToCustomer = omega arith
 
 -- extended communities by their types
 pub of_two_octet_as : (name m : List ℕ) {asn number : ℕ} → slice_index m 0 ≡ 0 → asn ≡ big_number 2 (drop 2 m) → number ≡ big_number 4 (drop 4 m) → name ++ (decimal asn ++ 58 ∷ decimal number) ≡ administrated_text name m
@@ -96,7 +87,3 @@ pub others_fit : (size : ℕ) (value rest : List ℕ) (more : ℕ) → length va
 others_fit size value rest more e rest_is =
     let all : suc more * size ≤ length value = subst (λ n. n * size ≤ length value) e (div-mul-le_self (length value) size) in
     omega (arith, all, ap length rest_is, length-drop size value)
-
--- a value too short for a member has no text
-pub value_without_members : (quotes : Bool) (separator : ℕ) (a : KeptAttribute) (value : List ℕ) → length value / (kept_form a).size ≡ 0 → kept_text quotes separator a value ≡ []
-value_without_members quotes separator a value e = ap (λ n. join_with_byte separator (map (shown_member quotes a) (members_in n (kept_form a).size value))) e

@@ -29,26 +29,10 @@ neither true b e = absurd cc
 neither false true e = absurd cc
 neither false false e = (refl, refl)
 
-not_true : (a : Bool) → not a ≡ true → a ≡ false
-not_true true e = absurd cc
-not_true false e = refl
-
 both : (a b : Bool) → (a && b) ≡ true → (a ≡ true) × (b ≡ true)
 both true true e = (refl, refl)
 both true false e = absurd cc
 both false b e = absurd cc
-
-all_joined : (p : ℕ → Bool) (xs ys : List ℕ) → list_all p xs ≡ true → list_all p ys ≡ true → list_all p (xs ++ ys) ≡ true
-all_joined p xs ys e f = list_all-append p xs ys ∙ ap (λ b. b && list_all p ys) e ∙ f
-
-bare_is_unquoted : (c : ℕ) → bare c ≡ true → unquoted c ≡ true
-bare_is_unquoted c e = ap not (neither (c == 34) _ e).0
-
-pub bare_are_unquoted : (text : List ℕ) → are_bare text ≡ true → are_unquoted text ≡ true
-bare_are_unquoted [] e = refl
-bare_are_unquoted (c ∷ text) e =
-    let parts = both (bare c) (are_bare text) e in
-    ap (λ b. b && are_unquoted text) (bare_is_unquoted c parts.0) ∙ bare_are_unquoted text parts.1
 
 -- ---- values
 
@@ -120,7 +104,3 @@ digits_onto_bare (suc k) base n acc some few e =
 pub decimal_is_bare : (n : ℕ) → are_bare (decimal n) ≡ true
 unfolding digits
 decimal_is_bare n = digits_onto_bare 64 10 n [] (omega arith) (omega arith) refl
-
-pub hexadecimal_is_bare : (n : ℕ) → are_bare (digits 16 false n) ≡ true
-unfolding digits
-hexadecimal_is_bare n = digits_onto_bare 64 16 n [] (omega arith) (omega arith) refl

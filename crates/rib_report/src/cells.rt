@@ -63,26 +63,11 @@ impl<A: Field> Field for OrNull<A> {
     }
 }
 
-/// A text in quotes, or `null` where there is none.
-#[derive(Clone, Copy)]
-pub(crate) struct QuotedOrNull<A>(pub(crate) Option<A>);
-
-impl<A: Field> Field for QuotedOrNull<A> {
-    ghost text_of = { λ o. or_null (λ x. quoted (A.text_of x)) o.0 };
-
-    ghost longest = { 4 + A.longest };
-
-    fn longest() -> usize {
-        A::longest().saturating_add(4)
-    }
-
-    #[inline(always)]
-    fn format(self, bytes: &mut [u8], at: usize, shorts: &DecimalTable) -> usize {
-        match self.0 {
-            Some(value) => Quoted(value).format(bytes, at, shorts),
-            None => format_text(bytes, at, b"null"),
-        }
-    }
+/// Returns a text that may be absent, in quotes.
+pub(crate) fn quoted_if_any<A: Field>(text: Option<A>) -> Option<Quoted<A>>
+    ensures { or_null (λ q. quoted (A.text_of q.0)) result ≡ or_null (λ t. quoted (A.text_of t)) text }
+{
+    text.map(Quoted)
 }
 
 /// `true` or `false`.

@@ -12,7 +12,7 @@ ghost use Rattle.rib_report.specs.LineParts.{cells_behind, line_end, line_front}
 ghost use Rattle.rib_report.specs.Texts.{Adds};
 
 use crate::buffer::put;
-use crate::cells::{Comma, QuotedOrNull, Truth, columns, if_any, plain, put_front, route_key};
+use crate::cells::{Comma, Truth, columns, if_any, plain, put_front, quoted_if_any, route_key};
 use crate::field::{Byte, Field, Joined, PeerText, format_next_hop};
 use crate::kept_columns::{put_line_end, put_route_end};
 use crate::route_line::put_segments;
@@ -167,7 +167,7 @@ fn put_attribute_members<T: Text, F: Unicast>(
     let members = Comma(
         plain!(Key::NextHop, hop).json,
         Comma(
-            plain!(Key::Origin, QuotedOrNull(route.origin())).json,
+            if_any!(Key::Origin, quoted_if_any(route.origin())).json,
             Comma(if_any!(Key::Med, route.med()).json, later),
         ),
     );

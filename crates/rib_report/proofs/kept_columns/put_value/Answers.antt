@@ -1,7 +1,7 @@
 use Rattle.std.proofs.Common.{◌≡◌, ℕ, suc, ◌+◌, ◌-◌, ◌/◌, drop, length, refl, arith, rules}
 use Rattle.std.proofs.lemmas.List.{take_rest}
 use Rattle.rib_report.proofs.TextLaws.{Adds_as, Adds_trans}
-use Rattle.rib_report.proofs.KeptColumns.{others_fit, value_in_parts, value_without_members, written_all, written_more, written_none}
+use Rattle.rib_report.proofs.KeptColumns.{others_fit, value_in_parts, written_all, written_more, written_none}
 use Rattle.rib_report.proofs.kept_columns.put_value.Goals as goal
 
 pub loop-i-init : goal.loop-i-init
