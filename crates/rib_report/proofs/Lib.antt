@@ -5,6 +5,7 @@ pub mod HistoryParts
 pub mod KeptColumns
 pub mod JsonLaws
 pub mod ValueLaws
+pub mod PlainTexts
 pub mod LineBlockLaws
 pub mod LineBlockLists
 pub mod RunLaws

@@ -50,5 +50,8 @@ event_cells layout row =
     ∷ key_cell layout row.key ∷ []
 
 -- these, and the fields of its route
+abbrev pub history_cells : Layout → RowState → List Cell
+history_cells layout row = event_cells layout row ++ listed_cells layout row.route
+
 abbrev pub history_line : Layout → RowState → List ℕ
-history_line layout row = line_by layout.format (event_cells layout row ++ listed_cells layout row.route)
+history_line layout row = line_by layout.format (history_cells layout row)

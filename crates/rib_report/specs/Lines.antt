@@ -162,32 +162,42 @@ row_cells layout row = peer_cell layout row.peer ∷ key_cell layout row.key ∷
 abbrev pub route_line : Layout → TableRow → List ℕ
 route_line layout row = line_by layout.format (row_cells layout row)
 
+abbrev pub visibility_cells : Layout → VisibilityRow → List Cell
+visibility_cells layout row = prefix_cell layout row.prefix ∷ number key.Peers row.peers ∷ []
+
 abbrev pub visibility_line : Layout → VisibilityRow → List ℕ
-visibility_line layout row =
-    line_by layout.format (prefix_cell layout row.prefix ∷ number key.Peers row.peers ∷ [])
+visibility_line layout row = line_by layout.format (visibility_cells layout row)
 
 abbrev pub origins_cell : List ℕ → Cell
 origins_cell origins =
     record { column = column.Origins; text = numbers_text 32 origins; values = listed (map decimal origins) ∷ [] }
 
+abbrev pub origin_cells : Layout → OriginRow → List Cell
+origin_cells layout row = prefix_cell layout row.prefix ∷ origins_cell row.origins ∷ []
+
 abbrev pub origin_line : Layout → OriginRow → List ℕ
-origin_line layout row = line_by layout.format (prefix_cell layout row.prefix ∷ origins_cell row.origins ∷ [])
+origin_line layout row = line_by layout.format (origin_cells layout row)
 
 abbrev pub origin_as_cell : Option ℕ → Cell
 origin_as_cell origin =
     record { column = column.OriginAs; text = field decimal origin; values = or_null decimal origin ∷ [] }
 
+abbrev pub seen_cells : Layout → SeenRow → List Cell
+seen_cells layout row = prefix_cell layout row.prefix ∷ origin_as_cell row.origin ∷ number key.Peers row.peers ∷ []
+
 abbrev pub seen_line : Layout → SeenRow → List ℕ
-seen_line layout row =
-    line_by layout.format (prefix_cell layout row.prefix ∷ origin_as_cell row.origin ∷ number key.Peers row.peers ∷ [])
+seen_line layout row = line_by layout.format (seen_cells layout row)
 
 -- peer, new, changed, same, gone, void, resets, idle, refused, first and last time
-abbrev pub churn_line : Layout → ChurnRow → List ℕ
-churn_line layout row = line_by layout.format (peer_cell layout row.peer
+abbrev pub churn_cells : Layout → ChurnRow → List Cell
+churn_cells layout row = peer_cell layout row.peer
     ∷ number key.New row.churn.added ∷ number key.Changed row.churn.changed ∷ number key.Same row.churn.same
     ∷ number key.Gone row.churn.gone ∷ number key.Void row.churn.void ∷ number key.Resets row.churn.resets
     ∷ number key.Idle row.churn.idle ∷ number key.Refused row.churn.refused
-    ∷ time_if_any key.First row.churn.first ∷ time_if_any key.Last row.churn.last ∷ [])
+    ∷ time_if_any key.First row.churn.first ∷ time_if_any key.Last row.churn.last ∷ []
+
+abbrev pub churn_line : Layout → ChurnRow → List ℕ
+churn_line layout row = line_by layout.format (churn_cells layout row)
 
 -- whether a peer is up
 abbrev pub state_text : Bool → List ℕ
@@ -204,17 +214,23 @@ abbrev pub entry_of : Option Place → Option ℕ
 entry_of place = option_and_then (λ p. p.entry) place
 
 -- peer, up or down, routes, units, first and last time, and the place of the first unit
-abbrev pub peer_line : Layout → PeerRow → List ℕ
-peer_line layout row = line_by layout.format (peer_cell layout row.peer ∷ word key.State (state_text row.is_established)
+abbrev pub peer_cells : Layout → PeerRow → List Cell
+peer_cells layout row = peer_cell layout row.peer ∷ word key.State (state_text row.is_established)
     ∷ number key.Routes row.routes ∷ number key.Units row.units
     ∷ time_if_any key.First row.first ∷ time_if_any key.Last row.last
     ∷ number_if_any key.File (file_of row.place) ∷ number_if_any key.Offset (offset_of row.place)
-    ∷ number_if_any key.Entry (entry_of row.place) ∷ [])
+    ∷ number_if_any key.Entry (entry_of row.place) ∷ []
+
+abbrev pub peer_line : Layout → PeerRow → List ℕ
+peer_line layout row = line_by layout.format (peer_cells layout row)
 
 -- ---- faults
 
 -- file from 1, offset, entry, number and name
-abbrev pub fault_line : Layout → Damage → List ℕ
-fault_line layout d = line_by layout.format (number key.File (d.place.file + 1) ∷ number key.Offset d.place.offset
+abbrev pub fault_cells : Layout → Damage → List Cell
+fault_cells layout d = number key.File (d.place.file + 1) ∷ number key.Offset d.place.offset
     ∷ number_if_any key.Entry d.place.entry ∷ number key.Number (fault_number d.fault)
-    ∷ word key.Fault (fault_name d.fault) ∷ [])
+    ∷ word key.Fault (fault_name d.fault) ∷ []
+
+abbrev pub fault_line : Layout → Damage → List ℕ
+fault_line layout d = line_by layout.format (fault_cells layout d)

@@ -18,10 +18,21 @@ ghost use Rattle.std.specs.FinMap.{find, is_sorted};
 ghost use Rattle.std.specs.List.{AllByRecursion, count_by, filter, list_any};
 ghost use Rattle.std.specs.List.Sorted.{IsSortedByKey, IsStableByKey};
 ghost use Rattle.bgp_prefix.specs.Prefixes.{IpPrefix, prefix_cmp, prefix_eq};
+ghost use Rattle.ip_text.specs.declared.address_form.AddressForm.{AddressForm};
+ghost use Rattle.bgp_update.specs.declared.kept_attribute.KeptAttribute.{KeptAttribute};
+ghost use Rattle.peer_units.specs.declared.unit.PeerAddr.{PeerAddr};
+ghost use Rattle.peer_tables.specs.Histories.{RowState};
+ghost use Rattle.report_request.specs.Plain.{Layout};
 ghost use Rattle.report_request.specs.declared.column.Key.{Key as AnyKey};
 ghost use Rattle.rib_report.specs.Cells.{quoted};
-ghost use Rattle.rib_report.specs.JsonValues.{HasNoQuote, IsValue, object_line};
-ghost use Rattle.rib_report.specs.Rows.{visibility_pair, origins_pair, seen_pair};
+ghost use Rattle.rib_report.specs.HistoryLines.{history_cells};
+ghost use Rattle.rib_report.specs.JsonValues.{HasNoQuote, IsValue, NeedNoEscape, NeedsNoEscape, object_line};
+ghost use Rattle.rib_report.specs.KeptTexts.{member_text};
+ghost use Rattle.rib_report.specs.Lines.{addr_text, churn_cells, fault_cells, origin_cells, peer_cells, prefix_text, row_cells, seen_cells, visibility_cells};
+ghost use Rattle.rib_report.specs.Plain.{OriginRow, SeenRow, VisibilityRow};
+ghost use Rattle.rib_report.specs.declared.reports.churn.ChurnRow.{ChurnRow as AnyChurn};
+ghost use Rattle.rib_report.specs.declared.reports.peers.PeerRow.{PeerRow as AnyPeerRow};
+ghost use Rattle.rib_report.specs.Rows.{TableRow, visibility_pair, origins_pair, seen_pair};
 ghost use Rattle.rib_report.specs.Reports.{place_cmp, visibility_of, visibility_rows, origins_of, origin_rows, fault_rows, is_seen_at, is_visible_at, prefix_origin, prefix_origin_cmp, prefix_origin_eq, seen_of, seen_rows, is_chosen_row, origins_seen, share_of, rest_of, route_rows, match_rows, churn_rows, peer_rows};
 
 /// The reports on tables that stand for units and refusals have the rows that are defined over these alone,
@@ -138,4 +149,21 @@ pub fn json_lines_spell_their_fields()
         object_line fields ≡ object_line others → fields ≡ others }
     ensures numbers { (n : ℕ) → IsValue (decimal n) }
     ensures texts { (text : List ℕ) → HasNoQuote text → IsValue (quoted text) }
+{}
+
+/// No row has a text that would need an escape in JSON: not in any field, and not in an address, a prefix or a member
+/// of an attribute, which stand in quotes alone. In quotes, such a text is a value.
+pub fn texts_need_no_escape()
+    ensures routes { (layout : Layout) (row : TableRow) → NeedNoEscape (row_cells layout row) }
+    ensures history { (layout : Layout) (row : RowState) → NeedNoEscape (history_cells layout row) }
+    ensures visibility { (layout : Layout) (row : VisibilityRow) → NeedNoEscape (visibility_cells layout row) }
+    ensures origins { (layout : Layout) (row : OriginRow) → NeedNoEscape (origin_cells layout row) }
+    ensures seen { (layout : Layout) (row : SeenRow) → NeedNoEscape (seen_cells layout row) }
+    ensures churn { (layout : Layout) (row : AnyChurn) → NeedNoEscape (churn_cells layout row) }
+    ensures peers { (layout : Layout) (row : AnyPeerRow) → NeedNoEscape (peer_cells layout row) }
+    ensures faults { (layout : Layout) (d : Damage) → NeedNoEscape (fault_cells layout d) }
+    ensures addresses { (form : AddressForm) (addr : PeerAddr) → NeedsNoEscape (addr_text form addr) }
+    ensures prefixes { (layout : Layout) (p : IpPrefix) → NeedsNoEscape (prefix_text layout p) }
+    ensures members { (a : KeptAttribute) (m : List ℕ) → NeedsNoEscape (member_text a m) }
+    ensures whole { (text : List ℕ) → NeedsNoEscape text → IsValue (quoted text) }
 {}

@@ -54,7 +54,7 @@ pub use laws::{
     counts_are_sums_over_shares, faults_of_shares, faults_stand_by_place,
     json_lines_spell_their_fields, origins_are_of_all_routes, origins_are_of_seen_rows,
     recorded_peers_are_shown_as_they_are, reports_are_of_units, rows_of_choices, rows_of_shares,
-    seen_counts_peers, visibility_counts_peers,
+    seen_counts_peers, texts_need_no_escape, visibility_counts_peers,
 };
 pub use peer_tables::{
     By, Gathered, HistoryRows, Listed, Listing, Seated, Tables, collect, collected_stand_for_units,
