@@ -1,5 +1,5 @@
 -- A line in JSON has the fields of one row alone.
-use Rattle.std.proofs.Common.{◌≡◌, ℕ, ◌⊎◌, inl, inr, List, [], ◌∷◌, ◌++◌, false, refl, sym, ap, ◌∙◌, map, append_assoc, length, get_or, drop, arith}
+use Rattle.std.proofs.Common.{◌≡◌, ℕ, inl, inr, List, [], ◌∷◌, ◌++◌, false, refl, sym, ap, ◌∙◌, map, append_assoc, length, get_or, drop, arith}
 use Rattle.std.proofs.lemmas.List.{append_cancel_left}
 use Rattle.std.specs.List.{AllByRecursion, join_with_byte}
 use Rattle.report_request.specs.declared.column.Key.{Key}

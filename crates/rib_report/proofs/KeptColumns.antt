@@ -1,5 +1,5 @@
 -- The columns of attributes that are asked for.
-use Rattle.std.proofs.Common.{◌≡◌, ℕ, suc, ◌+◌, ◌*◌, ◌/◌, ◌≤◌, ◌∷◌, ◌++◌, List, [], Bool, true, sym, ap, ◌∙◌, subst, refl, append_assoc, append-nil, length, take, drop, map, arith, length-drop}
+use Rattle.std.proofs.Common.{◌≡◌, ℕ, suc, ◌*◌, ◌/◌, ◌≤◌, ◌∷◌, ◌++◌, List, [], Bool, true, sym, ap, ◌∙◌, subst, refl, append_assoc, append-nil, length, take, drop, map, arith, length-drop}
 use Rattle.std.proofs.lemmas.Bool.{eqb-true}
 use Rattle.std.proofs.Math.Nat.{div-mul-le_self}
 use Rattle.std.specs.List.{flat_map}

@@ -1,7 +1,7 @@
-use Rattle.std.proofs.Common.{◌≡◌, ◌++◌, ◌∙◌, ◌∷◌, [], ap, append_assoc, sym}
+use Rattle.std.proofs.Common.{◌++◌, ◌∙◌, ◌∷◌, [], ap, sym}
 use Rattle.report_request.specs.declared.format.Format.TheVariants.{Json}
 use Rattle.rib_report.specs.Lines.{attribute_cells, path_cell}
-use Rattle.rib_report.specs.LineParts.{cells_behind, line_end}
+use Rattle.rib_report.specs.LineParts.{cells_behind}
 use Rattle.rib_report.proofs.TextLaws.{Adds_as, Adds_trans}
 use Rattle.rib_report.proofs.KeptColumns.{no_columns}
 use Rattle.rib_report.proofs.RowLines.{json_behind_key}

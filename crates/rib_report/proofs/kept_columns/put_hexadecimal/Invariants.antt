@@ -1,6 +1,5 @@
 -- the digits so far
-use Rattle.std.proofs.Common.{take, ◌++◌}
-use Rattle.std.specs.Prelude.{codes}
+use Rattle.std.proofs.Common.{take}
 use Rattle.std.specs.List.{flat_map}
 use Rattle.rib_report.specs.Texts.{Adds}
 use Rattle.rib_report.specs.KeptTexts.{byte_digits}

@@ -1,4 +1,4 @@
-use Rattle.std.proofs.Common.{◌≡◌, ℕ, suc, ◌+◌, ◌-◌, ◌/◌, drop, length, refl, arith, rules}
+use Rattle.std.proofs.Common.{◌≡◌, suc, ◌+◌, ◌-◌, ◌/◌, length, arith}
 use Rattle.std.proofs.lemmas.List.{take_rest}
 use Rattle.rib_report.proofs.TextLaws.{Adds_as, Adds_trans}
 use Rattle.rib_report.proofs.KeptColumns.{others_fit, value_in_parts, written_all, written_more, written_none}

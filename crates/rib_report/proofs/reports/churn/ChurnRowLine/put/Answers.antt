@@ -1,4 +1,4 @@
-use Rattle.std.proofs.Common.{◌≡◌, ◌∙◌, ◌∷◌, List, ℕ, [], ap, ◌++◌}
+use Rattle.std.proofs.Common.{◌∙◌, ◌∷◌, List, ℕ, [], ap}
 use Rattle.std.specs.Prelude.{decimal}
 use Rattle.std.specs.List.{join_with_byte}
 use Rattle.report_request.specs.Plain.{Layout}
