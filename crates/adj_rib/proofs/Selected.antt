@@ -13,7 +13,7 @@ use Rattle.mrt_frame.specs.Fields.{◌>>=◌}
 use Rattle.mrt_frame.specs.declared.fault.Fault.{Fault}
 use Rattle.bgp_update.specs.declared.route.Route.{Route}
 use Rattle.bgp_update.specs.Updates.{Update}
-use Rattle.bgp_update.specs.declared.width.Width.TheVariants.{Four}
+use Rattle.bgp_update.specs.Families.{route_rules}
 use Rattle.bgp_update.specs.Attributes.{route_in}
 use Rattle.bgp_update.specs.Hops.{by_hop}
 use Rattle.peer_units.specs.Plain.{PrefixChoice}
@@ -207,7 +207,7 @@ module _ (choices : List PrefixChoice) where
   unfolding event_in
   quiet_payload up (State from to rule) h = absurd cc
   quiet_payload up (Message bytes width add_path rules) h = quiet_reading up (event_in (Message bytes width add_path rules)) (or_parts (is_open choices) (speaks_of choices (event_in (Message bytes width add_path rules))) h).1
-  quiet_payload up (Entry rules key attrs) h = quiet_entry up key (route_in rules Four attrs) h
+  quiet_payload up (Entry rules key attrs) h = quiet_entry up key (route_in (route_rules rules) rules.entry_width attrs) h
   quiet_payload up Clear h = absurd cc
 
   pub quiet_unit : (up : Bool) (u : ReplayUnit) → concerns choices u.payload ≡ false → kept_steps (unit_steps up u) ≡ []

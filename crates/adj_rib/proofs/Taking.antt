@@ -11,10 +11,9 @@ use Rattle.bgp_prefix.specs.Keys.{RouteKey}
 use Rattle.mrt_frame.specs.Fields.{◌>>=◌}
 use Rattle.mrt_frame.specs.declared.fault.Fault.{Fault}
 use Rattle.bgp_update.specs.declared.width.Width.{Width}
-use Rattle.bgp_update.specs.declared.width.Width.TheVariants.{Four}
 use Rattle.bgp_update.specs.declared.route.Route.{Route}
 use Rattle.bgp_update.specs.Attributes.{route_in}
-use Rattle.bgp_update.specs.Families.{Rules}
+use Rattle.bgp_update.specs.Families.{RouteRules, route_rules}
 use Rattle.bgp_update.specs.Updates.{Update, update_in}
 use Rattle.peer_units.specs.declared.state_rule.StateRule.{StateRule}
 use Rattle.peer_units.specs.Plain.{Payload}
@@ -49,7 +48,7 @@ module _ (says : StateRule → ℕ → ℕ → Option Bool) where
   no_state_in_route key (Ok route) = refl
   no_state_in_route key (Err fault) = refl
 
-  no_state_in_message : (rules : Rules) (width : Width) (add_path : Bool) (r : Result (ℕ × List ℕ) Fault) → said_by says (r >>= λ m. cond (m.0 == UPDATE) (update_in rules width add_path m.1 >>= λ update. Ok (event.Change update)) (Ok event.Other)) ≡ None
+  no_state_in_message : (rules : RouteRules) (width : Width) (add_path : Bool) (r : Result (ℕ × List ℕ) Fault) → said_by says (r >>= λ m. cond (m.0 == UPDATE) (update_in rules width add_path m.1 >>= λ update. Ok (event.Change update)) (Ok event.Other)) ≡ None
   no_state_in_message rules width add_path (Err fault) = refl
   no_state_in_message rules width add_path (Ok m) =
       elim (m.0 == UPDATE) as (λ b. said_by says (cond b (update_in rules width add_path m.1 >>= λ update. Ok (event.Change update)) (Ok event.Other)) ≡ None) [
@@ -60,8 +59,8 @@ module _ (says : StateRule → ℕ → ℕ → Option Bool) where
   said_of_reading : (payload : Payload) → state_says says payload ≡ said_by says (event_in payload)
   unfolding event_in message_event_in
   said_of_reading (State from to rule) = refl
-  said_of_reading (Message bytes width add_path rules) = sym (no_state_in_message rules width add_path (message_in bytes))
-  said_of_reading (Entry rules key attrs) = sym (no_state_in_route key (route_in rules Four attrs))
+  said_of_reading (Message bytes width add_path rules) = sym (no_state_in_message (route_rules rules) width add_path (message_in bytes))
+  said_of_reading (Entry rules key attrs) = sym (no_state_in_route key (route_in (route_rules rules) rules.entry_width attrs))
   said_of_reading Clear = refl
 
   abbrev said_in : List ReplayUnit → List Bool

@@ -183,7 +183,9 @@ fn selection_of<F: Unicast>(alloc: Global, job: &Job<F>) -> Result<Selection<F>,
       peers = job.now.peers.items;
       share = job.now.share;
       states = job.now.states;
+      state_peers = job.now.state_peers;
       ribs = job.now.ribs;
+      table_dumps = job.now.table_dumps;
       rules = rules_of F.family job.now.layout.attributes;
       routes = job.now.routes;
     }) }
@@ -199,7 +201,9 @@ fn selection_of<F: Unicast>(alloc: Global, job: &Job<F>) -> Result<Selection<F>,
             .of_peers(peers)
             .of_share(job.share)
             .by_states(job.states)
+            .by_state_peers(job.state_peers)
             .by_ribs(job.ribs)
+            .by_table_dumps(job.table_dumps)
             .keeping(job.layout.attributes)
             .of_routes(routes),
     )
@@ -537,6 +541,7 @@ fn replay_job<F: Replayed>(rt: &HostRuntime, threads: &(impl Threads + Sync), jo
     };
     let watched = Watched {
         family: F::FAMILY,
+        table_dumps: job.table_dumps,
         files: &files,
         counts: counts.as_ref(),
         board: board.as_ref(),

@@ -6,7 +6,7 @@ use Rattle.std.proofs.lemmas.Bool.{eqb-true, ne_eqb}
 use Rattle.mrt_frame.specs.declared.fault.Fault.{Fault}
 use Rattle.bgp_prefix.proofs.KeyLaws.{or_none}
 use borrow.Author.Tests.{both_ways}
-use Rattle.bgp_update.specs.Families.{FamilyOf, Rules, rules_of}
+use Rattle.bgp_update.specs.Families.{FamilyOf, RouteRules, route_rules_of}
 use Rattle.bgp_update.specs.declared.attribute_type.AttributeType.{AttributeType}
 use Rattle.bgp_update.specs.declared.attribute_type.AttributeType.TheVariants as types
 use Rattle.bgp_update.specs.declared.kept_attribute.KeptAttribute.{KeptAttribute}
@@ -17,7 +17,7 @@ use Rattle.bgp_update.specs.declared.attribute_context.AttributeContext.TheVaria
 use Rattle.bgp_update.specs.declared.values.FirstValues.{FirstValues}
 use Rattle.bgp_update.specs.declared.asked_values.AskedValues.{AskedValues}
 use Rattle.bgp_update.specs.KeptAttributes.{has, is_kept_value, kept_code, kept_index, kept_of, no_attributes}
-use Rattle.bgp_update.specs.AttributeTypes.{type_code, type_of, bad_attribute}
+use Rattle.bgp_update.specs.AttributeTypes.{type_of, bad_attribute}
 use Rattle.bgp_update.specs.Attributes.{WrittenAttribute, looks_at, looks_at_type, has_type, value_fault, repeat_fault, fault_unless}
 use Rattle.bgp_update.specs.Values.{all_values, asked_value, kept_value, value_index, plain_rules, head_fault, head_fault_of_type, head_fault_beside, TakesAttribute, RefusesAttribute, TakesAsked, RefusesAsked}
 use Rattle.bgp_update.proofs.FirstTaken.{head_beside, unasked}
@@ -30,17 +30,17 @@ on_ok (Err e) f h = h
 -- ---- an attribute that is looked at in any case
 
 -- its fault doesn't depend on what is asked for
-head_same : (family : FamilyOf) (asked : AttributeSet) (context : AttributeContext) (width : Width) (t : AttributeType) (o : Option (List ℕ)) (value : List ℕ) → looks_at_type no_attributes t ≡ true → head_fault_of_type (rules_of family asked) context width t o value ≡ head_fault_of_type (plain_rules family) context width t o value
+head_same : (family : FamilyOf) (asked : AttributeSet) (context : AttributeContext) (width : Width) (t : AttributeType) (o : Option (List ℕ)) (value : List ℕ) → looks_at_type no_attributes t ≡ true → head_fault_of_type (route_rules_of family asked) context width t o value ≡ head_fault_of_type (plain_rules family) context width t o value
 unfolding head_fault value_fault
 head_same family asked context width (types.Kept a) o value plain = absurd (both_ways (has no_attributes a) (unasked a) plain)
 head_same family asked context width t None value plain = refl
 head_same family asked context width t (Some first) value plain = refl
 
 module _ (family : FamilyOf) (asked : AttributeSet) (context : AttributeContext) (width : Width) (a : WrittenAttribute) (first : FirstValues) (kept : AskedValues) (none : kept_of a.code ≡ None) where
-  beside_same : head_fault_beside (rules_of family asked) context width (all_values first kept) a ≡ head_fault_beside (plain_rules family) context width (kept_value first) a
+  beside_same : head_fault_beside (route_rules_of family asked) context width (all_values first kept) a ≡ head_fault_beside (plain_rules family) context width (kept_value first) a
   beside_same = by_type (type_of a.code) refl
     where
-      by_value : (t : AttributeType) → type_of a.code ≡ Some t → head_fault_of_type (rules_of family asked) context width t (all_values first kept t) a.value ≡ head_fault_of_type (plain_rules family) context width t (kept_value first t) a.value
+      by_value : (t : AttributeType) → type_of a.code ≡ Some t → head_fault_of_type (route_rules_of family asked) context width t (all_values first kept t) a.value ≡ head_fault_of_type (plain_rules family) context width t (kept_value first t) a.value
       by_value (types.Kept k) e = absurd (not_kept a.code k none e)
       by_value types.Origin e = head_same family asked context width types.Origin (kept_value first types.Origin) a.value refl
       by_value types.AsPath e = head_same family asked context width types.AsPath (kept_value first types.AsPath) a.value refl
@@ -54,21 +54,21 @@ module _ (family : FamilyOf) (asked : AttributeSet) (context : AttributeContext)
       by_value types.As4Path e = head_same family asked context width types.As4Path (kept_value first types.As4Path) a.value refl
       by_value types.As4Aggregator e = head_same family asked context width types.As4Aggregator (kept_value first types.As4Aggregator) a.value refl
 
-      by_type : (o : Option AttributeType) → type_of a.code ≡ o → option_and_then (λ t. head_fault_of_type (rules_of family asked) context width t (all_values first kept t) a.value) o ≡ option_and_then (λ t. head_fault_of_type (plain_rules family) context width t (kept_value first t) a.value) o
+      by_type : (o : Option AttributeType) → type_of a.code ≡ o → option_and_then (λ t. head_fault_of_type (route_rules_of family asked) context width t (all_values first kept t) a.value) o ≡ option_and_then (λ t. head_fault_of_type (plain_rules family) context width t (kept_value first t) a.value) o
       by_type None e = refl
       by_type (Some t) e = by_value t e
 
-  pub refuses_plain : (fault : Fault) → RefusesAttribute (plain_rules family) context width (kept_value first) a fault → RefusesAttribute (rules_of family asked) context width (all_values first kept) a fault
+  pub refuses_plain : (fault : Fault) → RefusesAttribute (plain_rules family) context width (kept_value first) a fault → RefusesAttribute (route_rules_of family asked) context width (all_values first kept) a fault
   refuses_plain fault h = beside_same ∙ h
 
-  pub takes_plain : (later : FirstValues) → TakesAttribute (plain_rules family) context width (kept_value first) a (kept_value later) → TakesAttribute (rules_of family asked) context width (all_values first kept) a (all_values later kept)
+  pub takes_plain : (later : FirstValues) → TakesAttribute (plain_rules family) context width (kept_value first) a (kept_value later) → TakesAttribute (route_rules_of family asked) context width (all_values first kept) a (all_values later kept)
   takes_plain later takes = record { passes = beside_same ∙ takes.passes; kept = stays }
     where
       other : (k : KeptAttribute) (b : Bool) → eqb a.code (kept_code k) ≡ b → b ≡ false
       other k false h = refl
       other k true h = absurd (not_kept a.code k none (ap type_of (eqb-true a.code (kept_code k) h) ∙ type_again (types.Kept k)))
 
-      stays : (t : AttributeType) → looks_at (rules_of family asked) t ≡ true → all_values later kept t ≡ option_or (all_values first kept t) (cond (has_type t a) (Some a.value) None)
+      stays : (t : AttributeType) → looks_at (route_rules_of family asked) t ≡ true → all_values later kept t ≡ option_or (all_values first kept t) (cond (has_type t a) (Some a.value) None)
       stays (types.Kept k) looked = sym (or_none (asked_value kept k)) ∙ ap (λ (b : Bool). option_or (asked_value kept k) (cond b (Some a.value) None)) (sym (other k (eqb a.code (kept_code k)) refl))
       stays types.Origin looked = takes.kept types.Origin refl
       stays types.AsPath looked = takes.kept types.AsPath refl
@@ -85,8 +85,8 @@ module _ (family : FamilyOf) (asked : AttributeSet) (context : AttributeContext)
 -- ---- an attribute that has to be asked for
 
 module _ (family : FamilyOf) (context : AttributeContext) (width : Width) (a : WrittenAttribute) (first : FirstValues) (kept : AskedValues) (k : KeptAttribute) (some : kept_of a.code ≡ Some k) where
-  abbrev rules : Rules
-  rules = rules_of family kept.asked
+  abbrev rules : RouteRules
+  rules = route_rules_of family kept.asked
 
   of_type : type_of a.code ≡ Some (types.Kept k)
   of_type = kept_type a.code k some

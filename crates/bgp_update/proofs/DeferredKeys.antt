@@ -3,25 +3,25 @@ use Rattle.std.proofs.Common.{◌≡◌, ℕ, zero, suc, Bool, true, false, cond
 use Rattle.std.specs.Prelude.{option_map}
 use Rattle.std.specs.Option.{option_and_then, option_or}
 use Rattle.std.specs.Result.{result_err}
-use Rattle.std.proofs.lemmas.Bool.{eqb-true, ne_eqb}
+use Rattle.std.proofs.lemmas.Bool.{ne_eqb}
 use Rattle.mrt_frame.specs.declared.fault.Fault.{Fault}
 use Rattle.mrt_frame.specs.declared.fault.Fault.TheVariants.{BadPrefix}
 use Rattle.mrt_frame.specs.Fields.{Reading, ◌>>=◌, byte_at, bytes_at, items_within, items_after}
 use Rattle.bgp_prefix.proofs.KeyLaws.{or_none}
-use Rattle.bgp_update.specs.Families.{FamilyOf, Rules, KeyForm, form_of}
+use Rattle.bgp_update.specs.Families.{FamilyOf, RouteRules, KeyForm, form_of}
 use Rattle.bgp_update.specs.declared.attribute_type.AttributeType.{AttributeType}
 use Rattle.bgp_update.specs.declared.attribute_type.AttributeType.TheVariants as types
 use Rattle.bgp_update.specs.declared.width.Width.{Width}
 use Rattle.bgp_update.specs.declared.attribute_context.AttributeContext.{AttributeContext}
 use Rattle.bgp_update.specs.declared.attribute_context.AttributeContext.TheVariants.{RibEntry, Message}
-use Rattle.bgp_update.specs.AttributeTypes.{type_code, type_of}
+use Rattle.bgp_update.specs.AttributeTypes.{type_of}
 use Rattle.bgp_update.specs.Keys.{identifier_len, octets_at, written_key_at, keys_in}
 use Rattle.bgp_update.specs.Multiprotocol.{reach_in, unreach_in, keys_beside, reached_in, unreached_in, reached_keys, unreached_keys}
 use Rattle.bgp_update.specs.Attributes.{WrittenAttribute, has_type, value_fault, fault_of_type, fault_beside, repeat_fault}
 use Rattle.bgp_update.specs.KeptAttributes.{kept_index}
 use Rattle.bgp_update.specs.Values.{value_index, head_fault, head_fault_of_type, head_fault_beside, keys_fault}
 use Rattle.bgp_update.proofs.Counts.{err_of_mapped}
-use Rattle.bgp_update.proofs.TypeLaws.{type_again, value_index_decides, equal_value_indices}
+use Rattle.bgp_update.proofs.TypeLaws.{value_index_decides, equal_value_indices}
 use Rattle.bgp_update.proofs.FirstTaken.{head_beside, no_type}
 
 abbrev Values : Type 0
@@ -94,7 +94,7 @@ head_first : {A B : Type 0} (r : Result A Fault) (f : A → Result B Fault) → 
 head_first (Ok x) f = refl
 head_first (Err fault) f = refl
 
-value_parts : (rules : Rules) (context : AttributeContext) (width : Width) (t : AttributeType) (value : List ℕ) → value_fault rules context width t value ≡ option_or (head_fault rules context width t value) (first_keys rules.family context t None value)
+value_parts : (rules : RouteRules) (context : AttributeContext) (width : Width) (t : AttributeType) (value : List ℕ) → value_fault rules context width t value ≡ option_or (head_fault rules context width t value) (first_keys rules.family context t None value)
 unfolding head_fault value_fault
 value_parts rules (Message add_path) width types.MpReachNlri value = head_first (reach_in rules.family value) _
 value_parts rules (Message add_path) width types.MpUnreachNlri value = head_first (unreach_in rules.family value) _
@@ -102,7 +102,7 @@ value_parts rules (Message add_path) width t value = sym (or_none (value_fault r
 value_parts rules RibEntry width types.MpReachNlri value = sym (or_none (value_fault rules RibEntry width types.MpReachNlri value))
 value_parts rules RibEntry width t value = sym (or_none (value_fault rules RibEntry width t value))
 
-pub beside_parts : (rules : Rules) (context : AttributeContext) (width : Width) (value_at : Values) (a : WrittenAttribute) → fault_beside rules context width value_at a ≡ option_or (head_fault_beside rules context width value_at a) (added_keys rules.family context value_at a)
+pub beside_parts : (rules : RouteRules) (context : AttributeContext) (width : Width) (value_at : Values) (a : WrittenAttribute) → fault_beside rules context width value_at a ≡ option_or (head_fault_beside rules context width value_at a) (added_keys rules.family context value_at a)
 beside_parts rules context width value_at a = by_type (type_of a.code)
   where
     again : (c : AttributeContext) (t : AttributeType) (first : List ℕ) → repeat_fault c t ≡ option_or (repeat_fault c t) (first_keys rules.family c t (Some first) a.value)
@@ -148,7 +148,7 @@ moved old old' added added' new new' o f n h = subst (λ x. KeysStep x added new
 abbrev pub later_values : Values → WrittenAttribute → Values
 later_values value_at a t = option_or (value_at t) (cond (has_type t a) (Some a.value) None)
 
-module _ (rules : Rules) (add_path : Bool) (width : Width) (value_at : Values) (a : WrittenAttribute) (fine : head_fault_beside rules (Message add_path) width value_at a ≡ None) where
+module _ (rules : RouteRules) (add_path : Bool) (width : Width) (value_at : Values) (a : WrittenAttribute) (fine : head_fault_beside rules (Message add_path) width value_at a ≡ None) where
   abbrev message : AttributeContext
   message = Message add_path
 
@@ -232,7 +232,7 @@ module _ (rules : Rules) (add_path : Bool) (width : Width) (value_at : Values) (
       by_value (Some first) h = same (adds t (Some first) e h) (again_value t types.MpUnreachNlri first e h) (again_value t types.MpReachNlri first e h)
 
 -- the fault of keys behind an attribute whose head is fine
-pub keys_step : (rules : Rules) (context : AttributeContext) (width : Width) (value_at : Values) (a : WrittenAttribute) → head_fault_beside rules context width value_at a ≡ None
+pub keys_step : (rules : RouteRules) (context : AttributeContext) (width : Width) (value_at : Values) (a : WrittenAttribute) → head_fault_beside rules context width value_at a ≡ None
     → KeysStep (keys_fault rules.family context value_at) (added_keys rules.family context value_at a) (keys_fault rules.family context (later_values value_at a))
 keys_step rules RibEntry width value_at a fine = moved _ _ _ _ _ _ refl (none_of (type_of a.code) None refl) refl (no_keys None)
   where

@@ -4,7 +4,7 @@ use Rattle.std.proofs.lemmas.Bool.{eqb-true}
 use Rattle.std.proofs.lemmas.List.{nil_from_length}
 use Rattle.std.specs.Option.{option_or}
 use Rattle.bgp_prefix.proofs.KeyLaws.{or_none}
-use Rattle.bgp_update.specs.Families.{FamilyOf, Rules}
+use Rattle.bgp_update.specs.Families.{RouteRules}
 use Rattle.bgp_update.specs.declared.attribute_type.AttributeType.{AttributeType}
 use Rattle.bgp_update.specs.declared.attribute_type.AttributeType.TheVariants as types
 use Rattle.bgp_update.specs.declared.width.Width.{Width}
@@ -21,15 +21,15 @@ use Rattle.bgp_update.proofs.TypeLaws.{type_again, value_index_decides, equal_va
 use Rattle.bgp_update.proofs.FormedValues.{no_fault}
 
 -- the fault of an attribute of a type
-pub beside : (rules : Rules) (context : AttributeContext) (width : Width) (value_at : Values) (a : WrittenAttribute) (t : AttributeType) (o : Option (List ℕ)) → type_of a.code ≡ Some t → value_at t ≡ o → fault_beside rules context width value_at a ≡ fault_of_type rules context width t o a.value
+pub beside : (rules : RouteRules) (context : AttributeContext) (width : Width) (value_at : Values) (a : WrittenAttribute) (t : AttributeType) (o : Option (List ℕ)) → type_of a.code ≡ Some t → value_at t ≡ o → fault_beside rules context width value_at a ≡ fault_of_type rules context width t o a.value
 beside rules context width value_at a t o e h = rw e (ap (λ (x : Option (List ℕ)). fault_of_type rules context width t x a.value) h)
 
 -- the same but for keys
-pub head_beside : (rules : Rules) (context : AttributeContext) (width : Width) (value_at : Values) (a : WrittenAttribute) (t : AttributeType) (o : Option (List ℕ)) → type_of a.code ≡ Some t → value_at t ≡ o → head_fault_beside rules context width value_at a ≡ head_fault_of_type rules context width t o a.value
+pub head_beside : (rules : RouteRules) (context : AttributeContext) (width : Width) (value_at : Values) (a : WrittenAttribute) (t : AttributeType) (o : Option (List ℕ)) → type_of a.code ≡ Some t → value_at t ≡ o → head_fault_beside rules context width value_at a ≡ head_fault_of_type rules context width t o a.value
 head_beside rules context width value_at a t o e h = rw e (ap (λ (x : Option (List ℕ)). head_fault_of_type rules context width t x a.value) h)
 
 -- the first of its type
-pub takes_first : (rules : Rules) (context : AttributeContext) (width : Width) (first later : Values) (a : WrittenAttribute) (t : AttributeType) → type_of a.code ≡ Some t → first t ≡ None → head_fault rules context width t a.value ≡ None
+pub takes_first : (rules : RouteRules) (context : AttributeContext) (width : Width) (first later : Values) (a : WrittenAttribute) (t : AttributeType) → type_of a.code ≡ Some t → first t ≡ None → head_fault rules context width t a.value ≡ None
     → ((u : AttributeType) → later u ≡ cond (eqb (value_index u) (value_index t)) (Some a.value) (first u)) → TakesAttribute rules context width first a later
 takes_first rules context width first later a t e none fine kept =
     record {
@@ -42,7 +42,7 @@ takes_first rules context width first later a t e none fine kept =
     by_test u true h = ap (λ (o : Option (List ℕ)). option_or o (Some a.value)) (sym (ap first (equal_value_indices u t h) ∙ none))
 
 -- a repeat
-pub takes_again : (rules : Rules) (context : AttributeContext) (width : Width) (first : Values) (a : WrittenAttribute) (t : AttributeType) (value : List ℕ) → type_of a.code ≡ Some t → Some value ≡ first t → refuses_repeat context t ≡ false → TakesAttribute rules context width first a first
+pub takes_again : (rules : RouteRules) (context : AttributeContext) (width : Width) (first : Values) (a : WrittenAttribute) (t : AttributeType) (value : List ℕ) → type_of a.code ≡ Some t → Some value ≡ first t → refuses_repeat context t ≡ false → TakesAttribute rules context width first a first
 takes_again rules context width first a t value e some allowed =
     record {
       passes = head_beside rules context width first a t (Some value) e (sym some) ∙ ap (λ (b : Bool). fault_unless (cond b false true) (bad_attribute t)) allowed;
@@ -67,7 +67,7 @@ no_type code u e = by_test (eqb code (type_code u)) refl
         absurd cc
 
 -- an attribute of a type that isn't looked at has no fault
-pub unlooked : (rules : Rules) (context : AttributeContext) (width : Width) (t : AttributeType) (o : Option (List ℕ)) (value : List ℕ) → looks_at rules t ≡ false → head_fault_of_type rules context width t o value ≡ None
+pub unlooked : (rules : RouteRules) (context : AttributeContext) (width : Width) (t : AttributeType) (o : Option (List ℕ)) (value : List ℕ) → looks_at rules t ≡ false → head_fault_of_type rules context width t o value ≡ None
 unfolding head_fault value_fault
 unlooked rules context width (types.Kept a) None value h = rw h refl
 unlooked rules RibEntry width (types.Kept a) (Some first) value h = refl
@@ -84,14 +84,14 @@ unasked ClusterList = refl
 unasked OnlyToCustomer = refl
 
 -- an attribute that isn't looked at changes nothing
-pub takes_none : (rules : Rules) (context : AttributeContext) (width : Width) (first : Values) (a : WrittenAttribute) → type_of a.code ≡ None → TakesAttribute rules context width first a first
+pub takes_none : (rules : RouteRules) (context : AttributeContext) (width : Width) (first : Values) (a : WrittenAttribute) → type_of a.code ≡ None → TakesAttribute rules context width first a first
 takes_none rules context width first a e = record {
   passes = rw e refl;
   kept = λ u looked. sym (or_none (first u)) ∙ ap (λ (b : Bool). option_or (first u) (cond b (Some a.value) None)) (sym (no_type a.code u e));
 }
 
 -- neither does one that isn't asked for
-pub takes_unasked : (rules : Rules) (context : AttributeContext) (width : Width) (first : Values) (a : WrittenAttribute) (t : AttributeType) → type_of a.code ≡ Some t → looks_at rules t ≡ false → TakesAttribute rules context width first a first
+pub takes_unasked : (rules : RouteRules) (context : AttributeContext) (width : Width) (first : Values) (a : WrittenAttribute) (t : AttributeType) → type_of a.code ≡ Some t → looks_at rules t ≡ false → TakesAttribute rules context width first a first
 takes_unasked rules context width first a t e unasked = record {
   passes = head_beside rules context width first a t (first t) e refl ∙ unlooked rules context width t (first t) a.value unasked;
   kept = λ u looked. sym (or_none (first u)) ∙ ap (λ (b : Bool). option_or (first u) (cond b (Some a.value) None)) (sym (other u looked (eqb a.code (type_code u)) refl));
@@ -107,7 +107,7 @@ takes_unasked rules context width first a t e unasked = record {
         some_is s = cc
 
 -- ATOMIC_AGGREGATE has an empty value
-pub atomic_is_empty : (rules : Rules) (context : AttributeContext) (width : Width) (t : AttributeType) (value : List ℕ) → value_index t ≡ value_count → head_fault rules context width t value ≡ None → value ≡ []
+pub atomic_is_empty : (rules : RouteRules) (context : AttributeContext) (width : Width) (t : AttributeType) (value : List ℕ) → value_index t ≡ value_count → head_fault rules context width t value ≡ None → value ≡ []
 unfolding head_fault value_fault
 atomic_is_empty rules context width types.AtomicAggregate value h e = nil_from_length value (eqb-true (length value) 0 (no_fault (eqb (length value) 0) (bad_attribute types.AtomicAggregate) e))
 atomic_is_empty rules context width t value h e = absurd (omega (arith, h))

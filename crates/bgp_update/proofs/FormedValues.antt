@@ -1,5 +1,5 @@
 -- A value has no fault where it has the form of its type, and the other way round.
-use Rattle.std.proofs.Common.{◌≡◌, ℕ, zero, suc, ◌+◌, ◌*◌, ◌/◌, ◌%◌, ◌<◌, Bool, true, false, not, ◌&&◌, ◌||◌, cond, eqb, List, [], ◌∷◌, length, Some, None, Result, Ok, Err, refl, sym, ap, ◌∙◌, arith, inl, inr, ◌⊎◌}
+use Rattle.std.proofs.Common.{◌≡◌, ℕ, zero, suc, ◌*◌, ◌/◌, ◌%◌, ◌<◌, Bool, true, false, not, ◌&&◌, ◌||◌, cond, eqb, List, [], ◌∷◌, length, Some, None, Result, Ok, Err, refl, sym, ap, ◌∙◌, arith, inl, inr, ◌⊎◌}
 use Rattle.std.specs.Prelude.{is_some}
 use Rattle.std.proofs.Math.Nat.{mod-add-div'}
 use borrow.Author.Tests.{both_ways}
@@ -10,7 +10,7 @@ use Rattle.bgp_update.specs.KeptAttributes.{IsKeptValue, is_kept_value, has, kep
 use Rattle.std.specs.Result.{result_err}
 use Rattle.mrt_frame.specs.declared.fault.Fault.{Fault}
 use Rattle.mrt_frame.proofs.FieldLaws.{IsBytes}
-use Rattle.bgp_update.specs.Families.{FamilyOf, Rules}
+use Rattle.bgp_update.specs.Families.{FamilyOf, RouteRules}
 use Rattle.bgp_update.specs.declared.attribute_type.AttributeType.{AttributeType}
 use Rattle.bgp_update.specs.declared.attribute_type.AttributeType.TheVariants as types
 use Rattle.bgp_update.specs.declared.width.Width.{Width}
@@ -162,11 +162,11 @@ kept_again OriginatorId value h = eq-eqb (length value) 4 (omega (arith, h.len, 
 kept_again ClusterList value h = several_pass (length value) 4 (ne_eqb (length value) 0 (λ e. absurd (omega (arith, e, h.len, h.some)))) (omega (arith, h.len))
 kept_again OnlyToCustomer value h = eq-eqb (length value) 4 (omega (arith, h.len, h.single refl))
 
-kept_is_formed : (rules : Rules) (a : KeptAttribute) (value : List ℕ) → cond (has rules.kept a) (fault_unless (is_kept_value a value) (bad_attribute (types.Kept a))) None ≡ None → has rules.kept a ≡ true → IsKeptValue a value
+kept_is_formed : (rules : RouteRules) (a : KeptAttribute) (value : List ℕ) → cond (has rules.kept a) (fault_unless (is_kept_value a value) (bad_attribute (types.Kept a))) None ≡ None → has rules.kept a ≡ true → IsKeptValue a value
 kept_is_formed rules a value e asked =
     is_kept a value (no_fault (is_kept_value a value) (bad_attribute (types.Kept a)) (ap (λ (b : Bool). cond b (fault_unless (is_kept_value a value) (bad_attribute (types.Kept a))) None) (sym asked) ∙ e))
 
-kept_passes : (rules : Rules) (a : KeptAttribute) (value : List ℕ) → (has rules.kept a ≡ true → IsKeptValue a value) → cond (has rules.kept a) (fault_unless (is_kept_value a value) (bad_attribute (types.Kept a))) None ≡ None
+kept_passes : (rules : RouteRules) (a : KeptAttribute) (value : List ℕ) → (has rules.kept a ≡ true → IsKeptValue a value) → cond (has rules.kept a) (fault_unless (is_kept_value a value) (bad_attribute (types.Kept a))) None ≡ None
 kept_passes rules a value h = by_test (has rules.kept a) refl
   where
     by_test : (b : Bool) → has rules.kept a ≡ b → cond b (fault_unless (is_kept_value a value) (bad_attribute (types.Kept a))) None ≡ None
@@ -184,7 +184,7 @@ path_is width value fine e =
 path_passes : (width : Width) (value : List ℕ) (path : List PathSegment) → IsPath (number_len width) path → value ≡ path_bytes (number_len width) path → result_err (path_in (number_len width) value) ≡ None
 path_passes width value path h e = ap (λ (v : List ℕ). result_err (path_in (number_len width) v)) e ∙ rw (path_in-bytes width path h) refl
 
-pub value_is_formed : (rules : Rules) (context : AttributeContext) (width : Width) (t : AttributeType) (value : List ℕ) → IsBytes value → value_fault rules context width t value ≡ None → IsFormed rules context width t value
+pub value_is_formed : (rules : RouteRules) (context : AttributeContext) (width : Width) (t : AttributeType) (value : List ℕ) → IsBytes value → value_fault rules context width t value ≡ None → IsFormed rules context width t value
 unfolding value_fault
 value_is_formed rules context width types.Origin value fine e = is_origin value (no_fault (is_some (origin_of value)) (bad_attribute types.Origin) e)
 value_is_formed rules context width types.AsPath value fine e = path_is width value fine e
@@ -199,7 +199,7 @@ value_is_formed rules context width types.As4Path value fine e = tt
 value_is_formed rules context width types.As4Aggregator value fine e = tt
 value_is_formed rules context width (types.Kept a) value fine e = kept_is_formed rules a value e
 
-pub formed_passes : (rules : Rules) (context : AttributeContext) (width : Width) (t : AttributeType) (value : List ℕ) → IsFormed rules context width t value → value_fault rules context width t value ≡ None
+pub formed_passes : (rules : RouteRules) (context : AttributeContext) (width : Width) (t : AttributeType) (value : List ℕ) → IsFormed rules context width t value → value_fault rules context width t value ≡ None
 unfolding value_fault
 formed_passes rules context width types.Origin value h = origin_passes value h.0 (bad_attribute types.Origin) h.1
 formed_passes rules context width types.AsPath value h = path_passes width value h.0 h.1 h.2

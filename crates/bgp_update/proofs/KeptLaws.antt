@@ -1,18 +1,15 @@
 -- The bytes of attributes that are kept spell them, and no others.
-use Rattle.std.proofs.Common.{◌≡◌, Bool, not, ℕ, zero, suc, ◌+◌, ◌<◌, ◌^◌, eqb, Option, Some, None, take, get_or, List, [], ◌∷◌, ◌++◌, length, Ok, Err, Result, refl, sym, ap, subst, ◌∙◌, append_assoc, length-append, arith}
-use Rattle.std.proofs.Math.Dec.{eqb-suc-zero, eqb-zero-suc, eqb-suc-suc}
+use Rattle.std.proofs.Common.{◌≡◌, not, ℕ, ◌+◌, ◌<◌, ◌^◌, eqb, take, get_or, List, [], ◌∷◌, ◌++◌, length, Ok, Err, Result, refl, sym, ap, subst, ◌∙◌, append_assoc, length-append, arith}
 use Rattle.std.specs.List.{AllByRecursion}
 use Rattle.std.specs.Result.{result_unwrap_or}
 use Rattle.std.specs.List.{flat_map}
 use Rattle.bgp_update.specs.Packing.{keeps_any}
-use Rattle.std.specs.Prelude.{map, option_map, slice_index_or, slice_set}
 use Rattle.std.proofs.lemmas.List.{append-nil, take_more}
 use Rattle.std.proofs.lemmas.List.Concat.{flat_map-cons, flat_map-append}
 use Rattle.byteorder.specs.Endian.{big_bytes}
 use Rattle.std.proofs.lemmas.Bool.{ne_eqb}
 use Rattle.mrt_frame.specs.declared.fault.Fault.{Fault}
 use Rattle.mrt_frame.specs.declared.fault.Fault.TheVariants.{ShortAttribute}
-use Rattle.mrt_frame.specs.Fields.{items_in}
 use Rattle.mrt_frame.proofs.Items.{ok_is}
 use Rattle.mrt_frame.proofs.FieldLaws.{byte_at-again, number_at-again, bytes_at-again}
 use Rattle.bgp_update.specs.declared.asked_values.AskedValues.{AskedValues}

@@ -9,7 +9,7 @@ use Rattle.std.specs.Result.{result_ok}
 use Rattle.byteorder.specs.Endian.{big_bytes}
 use Rattle.mrt_frame.specs.declared.fault.Fault.{Fault}
 use Rattle.mrt_frame.proofs.FieldLaws.{IsBytes, IsBytes-front}
-use Rattle.bgp_update.specs.Families.{FamilyOf, Rules}
+use Rattle.bgp_update.specs.Families.{RouteRules}
 use Rattle.bgp_update.specs.declared.attribute_type.AttributeType.{AttributeType}
 use Rattle.bgp_update.specs.declared.attribute_type.AttributeType.TheVariants as types
 use Rattle.bgp_update.specs.declared.kept_attribute.AttributeSet.{AttributeSet}
@@ -147,11 +147,11 @@ unfolding route_from
 said_writable asked width value_at fine = path_said width value_at fine
 
 -- another next hop leaves the path as it is
-said_path : (own : Bool) (rules : Rules) (width : Width) (attributes : List WrittenAttribute) (route : Route) → SaysRoute own rules width attributes route → route.path ≡ (route_of rules.kept width attributes).path
+said_path : (own : Bool) (rules : RouteRules) (width : Width) (attributes : List WrittenAttribute) (route : Route) → SaysRoute own rules width attributes route → route.path ≡ (route_of rules.kept width attributes).path
 said_path true rules width attributes route h = ap (λ (r : Route). r.path) h
 said_path false rules width attributes route h = ap (λ (r : Route). r.path) h.2
 
-pub route_writable : (rules : Rules) (width : Width) (bytes : List ℕ) (route : Route) → IsBytes bytes → route_in rules width bytes ≡ Ok route → IsWritable route.path
+pub route_writable : (rules : RouteRules) (width : Width) (bytes : List ℕ) (route : Route) → IsBytes bytes → route_in rules width bytes ≡ Ok route → IsWritable route.path
 route_writable rules width bytes route fine e =
     let t = route_takes rules width bytes route fine e in
     let written : IsWritable (route_of rules.kept width t.attributes).path = said_writable rules.kept width (λ x. value_of x t.attributes) (λ x. values_fine x t.attributes (subst IsBytes t.spelled fine)) in
@@ -166,7 +166,7 @@ attributes_fine form h =
     (bytes_behind (big_bytes 2 (length form.withdrawn)) (form.withdrawn ++ (big_bytes 2 (length (attributes_bytes form.attributes)) ++ (attributes_bytes form.attributes ++ form.announced))) h)))
 
 -- the same of an UPDATE; another next hop leaves the path as it is
-pub update_writable : (rules : Rules) (width : Width) (add_path : Bool) (body : List ℕ) (update : Update) → IsBytes body → update_in rules width add_path body ≡ Ok update → IsWritable update.route.path
+pub update_writable : (rules : RouteRules) (width : Width) (add_path : Bool) (body : List ℕ) (update : Update) → IsBytes body → update_in rules width add_path body ≡ Ok update → IsWritable update.route.path
 update_writable rules width add_path body update fine e =
     let t = update_takes rules width add_path body update fine e in
     subst (λ (r : Route). IsWritable r.path) (sym t.said.route) (said_writable rules.kept width (λ x. value_of x t.form.attributes) (λ x. values_fine x t.form.attributes (attributes_fine t.form (subst IsBytes t.spelled fine))))

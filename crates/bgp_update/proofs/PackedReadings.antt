@@ -1,5 +1,5 @@
 -- Attributes are packed as they stand, where their numbers have four bytes.
-use Rattle.std.proofs.Common.{◌≡◌, ℕ, ◌+◌, ◌*◌, ◌/◌, ◌%◌, ◌^◌, ◌<◌, ◌≤◌, Bool, true, false, cond, eqb, List, [], ◌∷◌, ◌++◌, length, length-append, Option, Some, None, Result, Ok, refl, sym, ap, subst, ◌∙◌, arith}
+use Rattle.std.proofs.Common.{◌≡◌, ℕ, ◌*◌, ◌/◌, ◌%◌, ◌^◌, ◌<◌, ◌≤◌, Bool, true, false, cond, eqb, List, [], ◌∷◌, ◌++◌, length, length-append, Option, Some, None, Result, Ok, refl, sym, ap, subst, ◌∙◌, arith}
 use Rattle.std.specs.List.{flat_map, AllByRecursion}
 use Rattle.std.proofs.lemmas.List.Concat.{flat_map-cons}
 use Rattle.byteorder.specs.Endian.{big_bytes}
@@ -9,7 +9,7 @@ use Rattle.std.specs.Option.{option_and_then, unwrap_or}
 use Rattle.std.specs.Result.{result_ok}
 use Rattle.mrt_frame.specs.declared.fault.Fault.{Fault}
 use Rattle.mrt_frame.proofs.FieldLaws.{IsBytes}
-use Rattle.bgp_update.specs.Families.{FamilyOf, Rules, rules_of}
+use Rattle.bgp_update.specs.Families.{FamilyOf, RouteRules, route_rules_of}
 use Rattle.bgp_update.specs.declared.attribute_type.AttributeType.{AttributeType}
 use Rattle.bgp_update.specs.declared.attribute_type.AttributeType.TheVariants.{Origin, AsPath, NextHop as AsNextHop, MultiExitDisc, LocalPref, AtomicAggregate, Aggregator, MpReachNlri, MpUnreachNlri, As4Path, As4Aggregator, Kept}
 use Rattle.bgp_update.specs.declared.kept_attribute.KeptAttribute.{KeptAttribute}
@@ -38,21 +38,21 @@ use Rattle.bgp_update.proofs.FromFirstValues.{route_from_same}
 use Rattle.bgp_update.proofs.Packings.{path_behind, kept_behind, spelled-bytes}
 use Rattle.bgp_update.proofs.Packable.{said_writable}
 
-spelled_if : (rules : Rules) (context : AttributeContext) (o : Option (List ℕ)) → IfSome o (IsFormed rules context Four AsPath) → IfSome o IsSpelled
+spelled_if : (rules : RouteRules) (context : AttributeContext) (o : Option (List ℕ)) → IfSome o (IsFormed rules context Four AsPath) → IfSome o IsSpelled
 spelled_if rules context None h = tt
 spelled_if rules context (Some value) h = subst IsSpelled (sym h.2) (spelled-bytes h.0 h.1)
 
 -- without a fault of keys these are the attributes of the field
-whole : (rules : Rules) (context : AttributeContext) (width : Width) (bytes : List ℕ) (values : Values) → keys_fault rules.family context values ≡ None → (keeps : KeepsFirst rules context width bytes values) → attributes_in rules context width bytes ≡ Ok keeps.0
+whole : (rules : RouteRules) (context : AttributeContext) (width : Width) (bytes : List ℕ) (values : Values) → keys_fault rules.family context values ≡ None → (keeps : KeepsFirst rules context width bytes values) → attributes_in rules context width bytes ≡ Ok keeps.0
 whole rules context width bytes values fine keeps = keeps.1 ∙ ap (λ (o : Option Fault). unless_fault o (Ok keeps.0)) fine
 
-pub keeps_spelled : (rules : Rules) (context : AttributeContext) (width : Width) (bytes : List ℕ) (values : Values) → IsBytes bytes → keys_fault rules.family context values ≡ None → KeepsFirst rules context width bytes values → width ≡ Four → IfSome (values AsPath) IsSpelled
+pub keeps_spelled : (rules : RouteRules) (context : AttributeContext) (width : Width) (bytes : List ℕ) (values : Values) → IsBytes bytes → keys_fault rules.family context values ≡ None → KeepsFirst rules context width bytes values → width ≡ Four → IfSome (values AsPath) IsSpelled
 keeps_spelled rules context width bytes values fine keys keeps e =
     let four : KeepsFirst rules context Four bytes values = subst (λ (w : Width). KeepsFirst rules context w bytes values) e keeps in
     let law = attributes_in-is rules context Four bytes four.0 fine (whole rules context Four bytes values keys four) in
     subst (λ (o : Option (List ℕ)). IfSome o IsSpelled) (sym (four.2 AsPath refl)) (spelled_if rules context (value_of AsPath four.0) (law.1.formed AsPath))
 
-pub keeps_writable : (rules : Rules) (context : AttributeContext) (width : Width) (bytes : List ℕ) (values : Values) → IsBytes bytes → keys_fault rules.family context values ≡ None → KeepsFirst rules context width bytes values → IsWritable (path_from width values)
+pub keeps_writable : (rules : RouteRules) (context : AttributeContext) (width : Width) (bytes : List ℕ) (values : Values) → IsBytes bytes → keys_fault rules.family context values ≡ None → KeepsFirst rules context width bytes values → IsWritable (path_from width values)
 unfolding route_from
 keeps_writable rules context width bytes values fine keys keeps =
     let law = attributes_in-is rules context width bytes keeps.0 fine (whole rules context width bytes values keys keeps) in
@@ -182,7 +182,7 @@ pub all_path : (width : Width) (first : FirstValues) (kept : AskedValues) → pa
 all_path Two first kept = refl
 all_path Four first kept = refl
 
-pub keeps_short : (rules : Rules) (context : AttributeContext) (width : Width) (bytes : List ℕ) (first : FirstValues) (kept : AskedValues) → IsBytes bytes → keys_fault rules.family context (kept_value first) ≡ None → kept.asked ≡ rules.kept
+pub keeps_short : (rules : RouteRules) (context : AttributeContext) (width : Width) (bytes : List ℕ) (first : FirstValues) (kept : AskedValues) → IsBytes bytes → keys_fault rules.family context (kept_value first) ≡ None → kept.asked ≡ rules.kept
     → KeepsFirst rules context width bytes (all_values first kept) → AreShort kept
 keeps_short rules context width bytes first kept fine keys same keeps = λ a h.
     let law = attributes_in-is rules context width bytes keeps.0 fine (whole rules context width bytes (all_values first kept) (all_keys rules.family context first kept ∙ keys) keeps) in
@@ -222,6 +222,6 @@ pub plain_entry : (family : FamilyOf) (width : Width) (first : FirstValues) → 
 unfolding entry_route
 plain_entry family width first = ap (λ (r : Route). cond family.own_fields r (by_hop r (entry_hop family (kept_value first MpReachNlri)))) (plain_route width first)
 
-pub asked_entry : (family : FamilyOf) (width : Width) (first : FirstValues) (kept : AskedValues) → kept_entry_route family width first (values_asked kept) ≡ entry_route (rules_of family kept.asked) width (all_values first kept)
+pub asked_entry : (family : FamilyOf) (width : Width) (first : FirstValues) (kept : AskedValues) → kept_entry_route family width first (values_asked kept) ≡ entry_route (route_rules_of family kept.asked) width (all_values first kept)
 unfolding entry_route
 asked_entry family width first kept = ap (λ (r : Route). cond family.own_fields r (by_hop r (entry_hop family (kept_value first MpReachNlri)))) (asked_route width first kept)

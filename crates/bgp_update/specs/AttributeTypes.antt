@@ -1,6 +1,6 @@
 -- The types of path attributes that are looked at, by their type codes (RFC 4271, 4.3 and 5.1; RFC 4760, sections 3 and
 -- 4; RFC 6793, section 3).
-use Rattle.std.specs.Prelude.{ℕ, Option, Some, None, ◌==◌, if◌then◌else◌, option_map}
+use Rattle.std.specs.Prelude.{ℕ, Option, Some, ◌==◌, if◌then◌else◌, option_map}
 use Rattle.mrt_frame.specs.declared.fault.Fault.{Fault}
 use Rattle.mrt_frame.specs.declared.fault.Fault.TheVariants.{BadAttribute}
 use Rattle.bgp_update.specs.declared.attribute_type.AttributeType.{AttributeType}

@@ -3,6 +3,8 @@ use Rattle.std.specs.Prelude.{ℕ, ◌^◌, ◌<◌, Bool, true, false}
 use Rattle.std.proofs.Common.{arith}
 use Rattle.bgp_update.specs.declared.unicast.FamilyEncoding.{FamilyEncoding}
 use Rattle.bgp_update.specs.declared.kept_attribute.AttributeSet.{AttributeSet}
+use Rattle.bgp_update.specs.declared.width.Width.{Width}
+use Rattle.bgp_update.specs.declared.width.Width.TheVariants.{Four}
 
 -- What a family has of its own: its number, of two bytes; the bits of its addresses; whether an UPDATE's own fields,
 -- withdrawn routes, NLRI and NEXT_HOP (RFC 4271, 4.3), are of this family; and the subtypes of its RIB records (RFC
@@ -35,10 +37,27 @@ pub record KeyForm : Type 0 where
 abbrev pub form_of : FamilyOf → Bool → KeyForm
 form_of family add_path = record { width = family.width; add_path = add_path }
 
--- by which rules messages and entries are read: of which family the routes are, and which further attributes they keep
-pub record Rules : Type 0 where
+-- by which rules the routes of messages and entries are read: of which family they are, and which further attributes
+-- they keep
+pub record RouteRules : Type 0 where
   pub family : FamilyOf
   pub kept : AttributeSet
 
+abbrev pub route_rules_of : FamilyOf → AttributeSet → RouteRules
+route_rules_of family kept = record { family = family; kept = kept }
+
+-- By which rules messages and entries are read: the same, and how wide AS numbers are in entries: four bytes (RFC 6396,
+-- 4.3.4), or two in dumps before these (4.2).
+pub record Rules : Type 0 where
+  pub family : FamilyOf
+  pub kept : AttributeSet
+  pub entry_width : Width
+
 abbrev pub rules_of : FamilyOf → AttributeSet → Rules
-rules_of family kept = record { family = family; kept = kept }
+rules_of family kept = record { family = family; kept = kept; entry_width = Four }
+
+abbrev pub by_entry_width : Width → Rules → Rules
+by_entry_width width rules = record rules { entry_width = width }
+
+abbrev pub route_rules : Rules → RouteRules
+route_rules rules = route_rules_of rules.family rules.kept

@@ -1,9 +1,8 @@
 -- The attributes that a route keeps, as bytes: the type code of each, the length of its value in two bytes, and the value.
-use Rattle.std.specs.Prelude.{◌≡◌, ℕ, ◌^◌, ◌<◌, List, [], ◌∷◌, ◌++◌, length, Result, Ok}
+use Rattle.std.specs.Prelude.{◌≡◌, ℕ, ◌^◌, ◌<◌, List, [], ◌∷◌, ◌++◌, length, Ok}
 use Rattle.std.specs.List.{flat_map, AllByRecursion}
 use Rattle.std.specs.Result.{result_unwrap_or}
 use Rattle.byteorder.specs.Endian.{big_bytes}
-use Rattle.mrt_frame.specs.declared.fault.Fault.{Fault}
 use Rattle.mrt_frame.specs.declared.fault.Fault.TheVariants.{ShortAttribute}
 use Rattle.mrt_frame.specs.Fields.{Reading, ◌>>=◌, byte_at, number_at, bytes_at, items_in}
 use Rattle.bgp_update.specs.KeptAttributes.{KeptValue}

@@ -5,7 +5,7 @@ ghost use Rattle.bgp_update.specs.Attributes.{attributes_in};
 ghost use Rattle.bgp_update.specs.declared.attribute_type.AttributeType.{AttributeType};
 ghost use Rattle.bgp_update.specs.declared.kept_attribute.KeptAttribute.{KeptAttribute};
 ghost use Rattle.bgp_update.specs.KeptAttributes.{has};
-ghost use Rattle.bgp_update.specs.Families.{rules_of};
+ghost use Rattle.bgp_update.specs.Families.{route_rules_of};
 ghost use Rattle.bgp_update.specs.Values.{all_values, as_written, asked_value, kept_value, keys_fault, unless_fault, AreShort, CanPackKept, HasRoom, IsWhole, KeepsFirst, RefusesAsked, RefusesAttribute, TakesAsked, TakesAttribute};
 
 use crate::attribute::{Attribute, attribute_at};
@@ -85,9 +85,9 @@ impl<'a> AskedValues<'a> {
         ensures room { HasRoom self.new }
         ensures asked { self.new.asked ≡ self.old.asked }
         ensures whole { OnOk result (IsWhole first.new) }
-        ensures ok { OnOk result (TakesAttribute (rules_of F.family self.old.asked) context width
+        ensures ok { OnOk result (TakesAttribute (route_rules_of F.family self.old.asked) context width
             (all_values first.old self.old) (as_written found.now) (all_values first.new self.new)) }
-        ensures err { IfErr result (RefusesAttribute (rules_of F.family self.old.asked) context width
+        ensures err { IfErr result (RefusesAttribute (route_rules_of F.family self.old.asked) context width
             (all_values first.old self.old) (as_written found.now)) }
         ensures same { OnErr result (first.new ≡ first.old) }
     {
@@ -112,12 +112,12 @@ pub fn keep_asked<'a, F: Unicast>(
     requires none_asked { (a : KeptAttribute) → asked_value kept.old a ≡ None }
     ensures room { HasRoom kept.new }
     ensures asked { kept.new.asked ≡ kept.old.asked }
-    ensures values { OnOk result (KeepsFirst (rules_of F.family kept.old.asked) context width bytes.now
+    ensures values { OnOk result (KeepsFirst (route_rules_of F.family kept.old.asked) context width bytes.now
         (all_values first.new kept.new)) }
     ensures packable { OnOk result
         (keys_fault F.family context (kept_value first.new) ≡ None → CanPackKept width first.new) }
     ensures short { OnOk result (keys_fault F.family context (kept_value first.new) ≡ None → AreShort kept.new) }
-    ensures fault { IfErr result (λ fault. attributes_in (rules_of F.family kept.old.asked) context width bytes.now
+    ensures fault { IfErr result (λ fault. attributes_in (route_rules_of F.family kept.old.asked) context width bytes.now
         ≡ unless_fault (keys_fault F.family context (kept_value first.new)) (Err fault)) }
 {
     let mut rest = bytes;

@@ -8,7 +8,7 @@ ghost use Rattle.mrt_frame.specs.Fields.{Reads};
 ghost use Rattle.bgp_update.specs.Segments.{number_len, path_in};
 ghost use Rattle.bgp_update.specs.Attributes as attributes;
 ghost use Rattle.bgp_update.specs.Attributes.{length_len};
-ghost use Rattle.bgp_update.specs.Families.{rules_of};
+ghost use Rattle.bgp_update.specs.Families.{route_rules_of};
 ghost use Rattle.bgp_update.specs.Values as values;
 
 use crate::attribute_context::AttributeContext;
@@ -107,7 +107,7 @@ pub fn head_fault<F: Unicast>(
     attribute_type: AttributeType,
     value: &[u8],
 ) -> Option<Fault>
-    ensures { result ≡ values.head_fault (rules_of F.family kept) context width attribute_type value.now }
+    ensures { result ≡ values.head_fault (route_rules_of F.family kept) context width attribute_type value.now }
 {
     let bad = attribute_type.fault();
     match attribute_type {

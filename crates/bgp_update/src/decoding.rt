@@ -2,7 +2,7 @@
 
 ghost use Rattle.std.specs.Prelude.{◌+◌, ◌^◌, ◌<◌, IfOk};
 ghost use Rattle.bgp_update.specs.Results.{Gives, UnlessMemory};
-ghost use Rattle.bgp_update.specs.Families.{rules_of};
+ghost use Rattle.bgp_update.specs.Families.{route_rules_of};
 ghost use Rattle.bgp_update.specs.Attributes.{route_in};
 ghost use Rattle.bgp_update.specs.Decoded.{AreUpdateSpans, IsGrown, IsRouteAt, IsUpdateAt, route_at, update_at};
 ghost use Rattle.bgp_update.specs.Updates.{update_in};
@@ -52,7 +52,7 @@ pub fn decode_asked_entry<F: Unicast>(
     asked: AttributeSet,
     width: Width,
 ) -> Result<RouteSpan, AttrError>
-    ensures exact { Gives (route_at bytes.new.items) result (route_in (rules_of F.family asked) width attrs.now) }
+    ensures exact { Gives (route_at bytes.new.items) result (route_in (route_rules_of F.family asked) width attrs.now) }
     ensures there { IfOk result (IsRouteAt bytes.new.items) }
     ensures grown { UnlessMemory result (IsGrown bytes.old.items bytes.new.items) }
 {
@@ -132,7 +132,7 @@ pub fn decode_asked_update<F: Unicast>(
     add_path: bool,
 ) -> Result<UpdateSpans, AttrError>
     ensures exact { Gives (update_at keys.new.items bytes.new.items) result
-        (update_in (rules_of F.family asked) width add_path body.now) }
+        (update_in (route_rules_of F.family asked) width add_path body.now) }
     ensures there { IfOk result (IsUpdateAt keys.new.items bytes.new.items) }
     ensures keys { UnlessMemory result (IsGrown keys.old.items keys.new.items) }
     ensures bytes { UnlessMemory result (IsGrown bytes.old.items bytes.new.items) }

@@ -164,6 +164,22 @@ impl AttributeSet {
         self.bits / attribute.form().bit % 2 == 1
     }
 
+    /// The set as a number: a bit for each attribute.
+    #[inline(always)]
+    pub(crate) fn bits(self) -> u8
+        ensures { result ≡ self.bits }
+    {
+        self.bits
+    }
+
+    /// Returns the set of this number.
+    #[inline(always)]
+    pub(crate) fn of_bits(bits: u8) -> AttributeSet
+        ensures { result.bits ≡ bits }
+    {
+        AttributeSet { bits }
+    }
+
     /// Whether it has none.
     #[inline(always)]
     pub fn is_empty(self) -> bool

@@ -4,7 +4,7 @@ ghost use Rattle.std.specs.Prelude.{◌≡◌, ◌↔◌, ℕ, Bool, List, Ok};
 ghost use Rattle.mrt_frame.specs.Bytes.{AreBytes};
 ghost use Rattle.bgp_update.specs.declared.route.Route.{Route};
 ghost use Rattle.bgp_update.specs.declared.width.Width.{Width};
-ghost use Rattle.bgp_update.specs.Families.{Rules};
+ghost use Rattle.bgp_update.specs.Families.{RouteRules};
 ghost use Rattle.bgp_update.specs.Attributes.{ReadsAsRoute, route_in};
 ghost use Rattle.bgp_update.specs.Paths.{PathSegment, IsMerged, merged};
 ghost use Rattle.bgp_update.specs.Updates.{Update, ReadsAsUpdate, update_in};
@@ -12,15 +12,15 @@ ghost use Rattle.bgp_update.specs.Updates.{Update, ReadsAsUpdate, update_in};
 /// Bytes read as an UPDATE exactly if they are its fields in turn, and it is what those fields
 /// say; as a route exactly if they are attributes that say it. They read in no other way.
 pub fn updates_agree_with_their_forms()
-    ensures updates { (rules : Rules) (width : Width) (add_path : Bool) (body : List ℕ) (update : Update) →
+    ensures updates { (rules : RouteRules) (width : Width) (add_path : Bool) (body : List ℕ) (update : Update) →
         AreBytes body →
         (update_in rules width add_path body ≡ Ok update) ↔ ReadsAsUpdate rules width add_path body update }
-    ensures one_update { (rules : Rules) (width : Width) (add_path : Bool) (body : List ℕ) (update other : Update) →
+    ensures one_update { (rules : RouteRules) (width : Width) (add_path : Bool) (body : List ℕ) (update other : Update) →
         ReadsAsUpdate rules width add_path body update →
         ReadsAsUpdate rules width add_path body other → update ≡ other }
-    ensures routes { (rules : Rules) (width : Width) (bytes : List ℕ) (route : Route) → AreBytes bytes →
+    ensures routes { (rules : RouteRules) (width : Width) (bytes : List ℕ) (route : Route) → AreBytes bytes →
         (route_in rules width bytes ≡ Ok route) ↔ ReadsAsRoute rules width bytes route }
-    ensures one_route { (rules : Rules) (width : Width) (bytes : List ℕ) (route other : Route) →
+    ensures one_route { (rules : RouteRules) (width : Width) (bytes : List ℕ) (route other : Route) →
         ReadsAsRoute rules width bytes route → ReadsAsRoute rules width bytes other → route ≡ other }
 {}
 

@@ -10,7 +10,7 @@ ghost use Rattle.bgp_update.specs.Updates as updates;
 ghost use Rattle.bgp_update.specs.Updates.{ReadsAsUpdate, own_keys_in, update_in};
 ghost use Rattle.bgp_update.specs.Packing.{IsWritable};
 ghost use Rattle.bgp_update.specs.Values.{AreShort, CanPackKept, HasRoom, IsWhole, asked_value, kept_entry_route, kept_route, kept_value, plain_rules, values_asked};
-ghost use Rattle.bgp_update.specs.Families.{rules_of};
+ghost use Rattle.bgp_update.specs.Families.{route_rules_of};
 ghost use Rattle.bgp_update.specs.declared.attribute_type.AttributeType.{AttributeType};
 ghost use Rattle.bgp_update.specs.declared.kept_attribute.KeptAttribute.{KeptAttribute};
 
@@ -168,9 +168,9 @@ pub(crate) fn read_asked_keys<'a, F: Unicast>(
     requires none_asked { (a : KeptAttribute) → asked_value asked.old a ≡ None }
     ensures said { IfOk result (λ appended.
         AreKeysOf keys.old.items keys.new.items appended (kept_route width first.new (values_asked asked.new))
-        (update_in (rules_of F.family asked.old.asked) width add_path body.now)) }
+        (update_in (route_rules_of F.family asked.old.asked) width add_path body.now)) }
     ensures fault { IfErr result
-        (λ e. Fails e (update_in (rules_of F.family asked.old.asked) width add_path body.now)) }
+        (λ e. Fails e (update_in (route_rules_of F.family asked.old.asked) width add_path body.now)) }
     ensures grown { IsGrown keys.old.items keys.new.items }
     ensures packable { OnOk result (CanPackKept width first.new) }
     ensures room { HasRoom asked.new }
@@ -228,7 +228,7 @@ fn whole_update<F: Unicast>(
     width: Width,
     add_path: bool,
 ) -> Result<Update<Prefix<F>>, AttrError>
-    ensures { Gives (λ update. update) result (update_in (rules_of F.family asked) width add_path body.now) }
+    ensures { Gives (λ update. update) result (update_in (route_rules_of F.family asked) width add_path body.now) }
 {
     let mut keys = Vec::new(alloc);
     let mut first = FirstValues::new();
@@ -265,7 +265,7 @@ fn whole_route<F: Unicast>(
     asked: AttributeSet,
     width: Width,
 ) -> Result<Route, AttrError>
-    ensures { Gives (λ route. route) result (route_in (rules_of F.family asked) width bytes.now) }
+    ensures { Gives (λ route. route) result (route_in (route_rules_of F.family asked) width bytes.now) }
 {
     let mut first = FirstValues::new();
     let mut kept = AskedValues::new(asked);
@@ -291,11 +291,11 @@ pub fn read_attrs<F: Unicast>(
     width: Width,
 ) -> Result<Route, AttrError>
     // The bytes encode the route that is returned.
-    ensures found { IfOk result (ReadsAsRoute (rules_of F.family asked) width bytes.now) }
+    ensures found { IfOk result (ReadsAsRoute (route_rules_of F.family asked) width bytes.now) }
     // The route that the bytes encode is returned, unless memory runs out.
-    ensures only { (route : Route) → ReadsAsRoute (rules_of F.family asked) width bytes.now route → Gives (λ r. r) result (Ok route) }
+    ensures only { (route : Route) → ReadsAsRoute (route_rules_of F.family asked) width bytes.now route → Gives (λ r. r) result (Ok route) }
     // Which fault it is.
-    ensures exact { Gives (λ r. r) result (route_in (rules_of F.family asked) width bytes.now) }
+    ensures exact { Gives (λ r. r) result (route_in (route_rules_of F.family asked) width bytes.now) }
     // It can be packed.
     ensures writable { IfOk result (λ route. IsWritable route.path) }
 {
@@ -312,10 +312,10 @@ pub fn read_update<F: Unicast>(
     width: Width,
     add_path: bool,
 ) -> Result<Update<Prefix<F>>, AttrError>
-    ensures found { IfOk result (ReadsAsUpdate (rules_of F.family asked) width add_path body.now) }
-    ensures only { (update : Update IpPrefix) → ReadsAsUpdate (rules_of F.family asked) width add_path body.now update →
+    ensures found { IfOk result (ReadsAsUpdate (route_rules_of F.family asked) width add_path body.now) }
+    ensures only { (update : Update IpPrefix) → ReadsAsUpdate (route_rules_of F.family asked) width add_path body.now update →
         Gives (λ u. u) result (Ok update) }
-    ensures exact { Gives (λ u. u) result (update_in (rules_of F.family asked) width add_path body.now) }
+    ensures exact { Gives (λ u. u) result (update_in (route_rules_of F.family asked) width add_path body.now) }
     ensures writable { IfOk result (λ update. IsWritable update.route.path) }
 {
     whole_update(alloc, body, asked, width, add_path)

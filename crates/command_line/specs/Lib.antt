@@ -4,3 +4,4 @@ pub mod Families
 pub mod Words
 pub mod Lists
 pub mod FileLists
+pub mod DumpRules

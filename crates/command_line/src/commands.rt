@@ -9,7 +9,7 @@ static VERSION: &str = "0.3.0";
 static ABOUT: &str =
     "Replays MRT route-collector dumps into one routing table (Adj-RIB-In) per BGP peer, and prints a report.
 
-A run reads the unicast routes of one family: those of IPv4, or, with --family ipv6, those of IPv6. Communities are read with --attributes or --community alone. Multicast and VPN routes, TABLE_DUMP records and BMP aren't read.";
+A run reads the unicast routes of one family: those of IPv4, or, with --family ipv6, those of IPv6. Communities are read with --attributes or --community alone, and TABLE_DUMP records with --table-dump read. Multicast and VPN routes and BMP aren't read.";
 
 static AFTER: &str = "Examples:
   bgp_replay tables rib.mrt updates.mrt

@@ -35,6 +35,8 @@
 //! - `--peer` and `--peers` choose peers by AS number and address, and a share of the peers. Their readers are tested.
 //! - `--origin`, `--path` and `--community` choose routes: a job has a `ChosenRoutes`, whose masks and patterns
 //!   `route_choice` reads. The attributes that its patterns are about are asked for as if `--attributes` named them.
+//! - `--written-by` stands for the rules that fit a daemon's dumps, where no other option names them: `DumpRules::by`
+//!   is proved, and no one above knows of it. `clap` fills in defaults, so what the arguments give is asked by source.
 //! - `Records` counts records by their headers for `--summary`, through the bytes that the replay reads, and nothing in
 //!   the replay depends on it.
 //! - `Kind` is what a file's first eight bytes look like. Such a file is still cut as a dump, since nothing in a dump
@@ -63,6 +65,7 @@ mod refusal;
 mod routes;
 mod words;
 mod wrap;
+mod written_by;
 
 pub use address::read_address;
 pub use address_family::AddressFamily;
@@ -80,3 +83,4 @@ pub use records::{Aside, Records};
 pub use routes::read_origin;
 pub use words::{Asked, Job, Usage, read_words, standard_input_fault};
 pub use wrap::{read_width, wrapped};
+pub use written_by::{Daemon, DumpRules, NamedRules};

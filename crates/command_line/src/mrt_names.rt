@@ -1,8 +1,12 @@
 //! The names of the types and subtypes of MRT records (RFC 6396, 4 and appendix B; RFC 6397; RFC 8050).
 
+ghost use Rattle.std.specs.Prelude.{◌≡◌};
+ghost use Rattle.mrt_body.specs.Units.{body_kind_of, is_aside_content};
+
 use bgp_update::Unicast;
 use mrt_body::{BodyKind, body_kind_of};
 use mrt_frame::Header;
+use peer_units::TableDumpRule;
 use std::fmt;
 
 const TABLE_DUMP: u16 = 12;
@@ -29,9 +33,19 @@ impl RecordKind {
         }
     }
 
-    /// Whether records of it are counted and not interpreted where the routes of a family are read.
-    pub fn is_aside<F: Unicast>(self) -> bool {
-        body_kind_of::<F>(self.kind, self.subtype) == BodyKind::Aside
+    /// Whether records of it are counted and not interpreted where the routes of a family are read, and this is done
+    /// with TABLE_DUMP records.
+    pub fn is_aside<F: Unicast>(self, table_dumps: TableDumpRule) -> bool
+        ensures { result ≡ is_aside_content table_dumps (body_kind_of F.family self.kind self.subtype) }
+    {
+        match body_kind_of::<F>(self.kind, self.subtype) {
+            BodyKind::Aside => true,
+            BodyKind::OldEntry => match table_dumps {
+                TableDumpRule::Aside => true,
+                TableDumpRule::Read => false,
+            },
+            _ => false,
+        }
     }
 
     /// The name of the type, if it has one.

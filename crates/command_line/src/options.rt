@@ -49,7 +49,7 @@ pub struct CommandRow {
     pub examples: &'static [&'static str],
 }
 
-pub static OPTIONS: [OptionRow; 24] = [
+pub static OPTIONS: [OptionRow; 27] = [
     OptionRow {
         name: "address",
         value: "A",
@@ -181,6 +181,16 @@ pub static OPTIONS: [OptionRow; 24] = [
         meaning: "Say which state changes end a peer's routes. With recorded each does but one from 6 (Established) to 6, and the peer is up where the new state is 6. With established, for dumps of FRR, one does where either of its states is 6 and the other isn't, and what comes between is taken whatever the states are",
     },
     OptionRow {
+        name: "state-peers",
+        value: "RULE",
+        takes: Takes::Text,
+        default: "recorded",
+        offered: "recorded local by-as",
+        commands: "",
+        is_required: false,
+        meaning: "Say whose state a state change is. With recorded it is the recorded peer's. With local, for dumps of OpenBGPD, it is that of the record's local AS and address, and where that AS is 0 or 23456, that of each known peer of the address. With by-as, for dumps of BIRD, one whose peer address is 0.0.0.0 or :: is that of each known peer of its AS. A peer is known where an index table has named it, or a message, a state change or an entry was its, before in the files",
+    },
+    OptionRow {
         name: "rib",
         value: "RULE",
         takes: Takes::Text,
@@ -189,6 +199,26 @@ pub static OPTIONS: [OptionRow; 24] = [
         commands: "",
         is_required: false,
         meaning: "Say what a RIB dump does to the routes before it. With add its entries are announcements like others. With replace its first record behind an index table clears all tables, so that routes that have gone don't stay",
+    },
+    OptionRow {
+        name: "table-dump",
+        value: "RULE",
+        takes: Takes::Text,
+        default: "aside",
+        offered: "aside read",
+        commands: "",
+        is_required: false,
+        meaning: "Say what is done with TABLE_DUMP records, as RIB dumps from before about 2008 and OpenBGPD's dump table have them. With aside they are counted and not read. With read each is an entry of its peer's table, with AS numbers of two bytes, and none begins a RIB dump for --rib replace",
+    },
+    OptionRow {
+        name: "written-by",
+        value: "NAME",
+        takes: Takes::Text,
+        default: "",
+        offered: "bird frr openbgpd gobgp",
+        commands: "",
+        is_required: false,
+        meaning: "Take the rules that fit the dumps of this daemon. For bird they are --states established --state-peers by-as, for frr --states established, for openbgpd --state-peers local, and for gobgp --rib replace. Where one of these options is given, its value counts",
     },
     OptionRow {
         name: "format",

@@ -7,6 +7,7 @@ use crate::address_family::AddressFamily;
 use crate::mrt_names::RecordKind;
 use bgp_prefix::Ipv6;
 use mrt_frame::{Header, is_within_limits};
+use peer_units::TableDumpRule;
 use std::alloc::Global;
 
 /// How many bytes a header has.
@@ -27,6 +28,8 @@ pub struct Aside {
 pub struct Records {
     /// The family of the routes that are read.
     family: AddressFamily,
+    /// What is done with TABLE_DUMP records.
+    table_dumps: TableDumpRule,
     /// The first bytes of a header, and how many have arrived.
     header: [u8; HEADER_SIZE],
     filled: usize,
@@ -46,10 +49,12 @@ pub struct Records {
 }
 
 impl Records {
-    /// Returns the counts of a dump of which nothing has been read, where the routes of this family are.
-    pub fn new(alloc: Global, family: AddressFamily) -> Records {
+    /// Returns the counts of a dump of which nothing has been read, where the routes of this family are, and this is
+    /// done with TABLE_DUMP records.
+    pub fn new(alloc: Global, family: AddressFamily, table_dumps: TableDumpRule) -> Records {
         Records {
             family,
+            table_dumps,
             header: [0; HEADER_SIZE],
             filled: 0,
             last_header: Header {
@@ -197,8 +202,8 @@ impl Records {
     /// Whether records of a kind aren't interpreted.
     fn is_aside(&self, kind: RecordKind) -> bool {
         match self.family {
-            AddressFamily::Ipv4 => kind.is_aside::<u32>(),
-            AddressFamily::Ipv6 => kind.is_aside::<Ipv6>(),
+            AddressFamily::Ipv4 => kind.is_aside::<u32>(self.table_dumps),
+            AddressFamily::Ipv6 => kind.is_aside::<Ipv6>(self.table_dumps),
         }
     }
 

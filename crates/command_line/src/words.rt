@@ -15,11 +15,13 @@ use crate::moment::read_second;
 use crate::peers::{read_peer, read_share};
 use crate::refusal::refusal_of;
 use crate::routes::{fault_of_mask, read_origin};
+use crate::written_by::{Daemon, DumpRules, NamedRules};
 use bgp_prefix::{Ipv6, Prefix};
 use bgp_update::{AttributeSet, FamilyMark, Unicast};
 use clap::error::ErrorKind;
+use clap::parser::ValueSource;
 use clap::{ArgMatches, Error};
-use peer_units::{PeerChoice, PrefixChoice, RibRule, Share, StateRule};
+use peer_units::{PeerChoice, PrefixChoice, RibRule, Share, StatePeers, StateRule, TableDumpRule};
 use report_request::{AddressForm, Format, Layout, LayoutOf, Request};
 use route_choice::{
     ChosenRoutes, CommunityPattern, MaskError, PathMask, read_community, read_mask,
@@ -46,8 +48,12 @@ pub struct Job<F: Unicast = u32> {
     pub until: Option<u64>,
     /// By which rule state changes are taken.
     pub states: StateRule,
+    /// Whose state a state change is.
+    pub state_peers: StatePeers,
     /// What a RIB dump does to the routes before it.
     pub ribs: RibRule,
+    /// What is done with TABLE_DUMP records.
+    pub table_dumps: TableDumpRule,
     /// The prefixes that are chosen, or none for all.
     pub prefixes: Vec<PrefixChoice<Prefix<F>>>,
     /// The files whose lines add to them; `-` is standard input.
@@ -203,28 +209,94 @@ fn second_of(alloc: Global, name: &str, matches: &ArgMatches<'_>) -> Result<Opti
     }
 }
 
-/// Returns the rule by which state changes are taken.
-fn states_of(alloc: Global, matches: &ArgMatches<'_>) -> Result<StateRule, Usage>
+/// Returns the value of an option where the arguments give it, and none where it would be the default.
+fn given<'a>(name: &str, matches: &ArgMatches<'a>) -> Option<&'a str> {
+    match matches.value_source(name) {
+        Some(ValueSource::CommandLine) => matches.get_str(name),
+        _ => None,
+    }
+}
+
+/// Returns the rule by which state changes are taken, if the arguments name it.
+fn states_of(alloc: Global, matches: &ArgMatches<'_>) -> Result<Option<StateRule>, Usage>
     ensures { IfErr result IsRefusal }
 {
-    match matches.get_str("states").unwrap_or("recorded") {
-        "recorded" => Ok(StateRule::Recorded),
-        "established" => Ok(StateRule::Established),
-        text => Err(Usage::Words(format!(in alloc;
+    match given("states", matches) {
+        None => Ok(None),
+        Some("recorded") => Ok(Some(StateRule::Recorded)),
+        Some("established") => Ok(Some(StateRule::Established)),
+        Some(text) => Err(Usage::Words(format!(in alloc;
             "error: invalid value '{text}' for '--states <RULE>': neither recorded nor established\n"
         )?)),
     }
 }
 
-/// Returns what a RIB dump does to the routes before it.
-fn ribs_of(alloc: Global, matches: &ArgMatches<'_>) -> Result<RibRule, Usage>
+/// Returns the rule that says whose state a state change is, if the arguments name it.
+fn state_peers_of(alloc: Global, matches: &ArgMatches<'_>) -> Result<Option<StatePeers>, Usage>
     ensures { IfErr result IsRefusal }
 {
-    match matches.get_str("rib").unwrap_or("add") {
-        "add" => Ok(RibRule::Add),
-        "replace" => Ok(RibRule::Replace),
-        text => Err(Usage::Words(format!(in alloc;
+    match given("state-peers", matches) {
+        None => Ok(None),
+        Some("recorded") => Ok(Some(StatePeers::Recorded)),
+        Some("local") => Ok(Some(StatePeers::Local)),
+        Some("by-as") => Ok(Some(StatePeers::ByAs)),
+        Some(text) => Err(Usage::Words(format!(in alloc;
+            "error: invalid value '{text}' for '--state-peers <RULE>': neither recorded, local nor by-as\n"
+        )?)),
+    }
+}
+
+/// Returns the rule that says what a RIB dump does to the routes before it, if the arguments name it.
+fn ribs_of(alloc: Global, matches: &ArgMatches<'_>) -> Result<Option<RibRule>, Usage>
+    ensures { IfErr result IsRefusal }
+{
+    match given("rib", matches) {
+        None => Ok(None),
+        Some("add") => Ok(Some(RibRule::Add)),
+        Some("replace") => Ok(Some(RibRule::Replace)),
+        Some(text) => Err(Usage::Words(format!(in alloc;
             "error: invalid value '{text}' for '--rib <RULE>': neither add nor replace\n"
+        )?)),
+    }
+}
+
+/// Returns the daemon that wrote the dumps, if the arguments name it.
+fn written_by(alloc: Global, matches: &ArgMatches<'_>) -> Result<Option<Daemon>, Usage>
+    ensures { IfErr result IsRefusal }
+{
+    let Some(text) = matches.get_str("written-by") else {
+        return Ok(None);
+    };
+    match Daemon::named(text) {
+        Some(daemon) => Ok(Some(daemon)),
+        None => Err(Usage::Words(format!(in alloc;
+            "error: invalid value '{text}' for '--written-by <NAME>': no daemon whose dumps are known by this name\n  it may be bird, frr, openbgpd or gobgp\n"
+        )?)),
+    }
+}
+
+/// Returns the rules that fit the daemon that wrote the dumps, but for those that the arguments name.
+fn dump_rules_of(alloc: Global, matches: &ArgMatches<'_>) -> Result<DumpRules, Usage>
+    ensures { IfErr result IsRefusal }
+{
+    let named = NamedRules {
+        states: states_of(alloc, matches)?,
+        state_peers: state_peers_of(alloc, matches)?,
+        ribs: ribs_of(alloc, matches)?,
+    };
+    let daemon = written_by(alloc, matches)?;
+    Ok(DumpRules::by(daemon, &named))
+}
+
+/// Returns what is done with TABLE_DUMP records.
+fn table_dumps_of(alloc: Global, matches: &ArgMatches<'_>) -> Result<TableDumpRule, Usage>
+    ensures { IfErr result IsRefusal }
+{
+    match matches.get_str("table-dump").unwrap_or("aside") {
+        "aside" => Ok(TableDumpRule::Aside),
+        "read" => Ok(TableDumpRule::Read),
+        text => Err(Usage::Words(format!(in alloc;
+            "error: invalid value '{text}' for '--table-dump <RULE>': neither aside nor read\n"
         )?)),
     }
 }
@@ -515,8 +587,12 @@ fn job_of<F: AddressText>(
     if is_never(&request, until) {
         return Err(refused(alloc, "error: --since is after --until\n")?);
     }
-    let states = states_of(alloc, matches)?;
-    let ribs = ribs_of(alloc, matches)?;
+    let DumpRules {
+        states,
+        state_peers,
+        ribs,
+    } = dump_rules_of(alloc, matches)?;
+    let table_dumps = table_dumps_of(alloc, matches)?;
     let prefixes = prefixes_of::<F>(alloc, matches)?;
     let lists = texts_of(alloc, "prefixes", matches)?;
     let peers = peers_of(alloc, matches)?;
@@ -546,7 +622,9 @@ fn job_of<F: AddressText>(
         ring,
         until,
         states,
+        state_peers,
         ribs,
+        table_dumps,
         prefixes,
         lists,
         peers,

@@ -2,6 +2,7 @@
 
 use command_line::{AddressFamily, FirstBytes, Kind, Records};
 use fixtures::bytes_of;
+use peer_units::TableDumpRule;
 use std::test::Fail;
 
 /// Five records and the header of a sixth, whose body is too long: RIB_IPV4_UNICAST at 7 with two bytes,
@@ -17,7 +18,7 @@ const ZIP: &[u8] = b"PK\x03\x04\x14\x00\x00\x00";
 fn pieces_of_a_dump_are_one_dump(rt: HostRuntime) -> Result<(), Fail> {
     let dump = bytes_of(rt.alloc(), RECORDS)?;
     for piece in [1usize, 2, 5, 11, 12, 13, 64, 1000] {
-        let mut records = Records::new(rt.alloc(), AddressFamily::Ipv4);
+        let mut records = Records::new(rt.alloc(), AddressFamily::Ipv4, TableDumpRule::Aside);
         let mut first = FirstBytes::new();
         for bytes in dump.as_slice().chunks(piece.max(1)) {
             records.take(bytes);
@@ -48,4 +49,22 @@ fn pieces_of_a_packed_file_are_one_file(rt: HostRuntime) {
         }
         assert!(rt; first.kind() == Some(Kind::Zip), "{piece}");
     }
+}
+
+/// TABLE_DUMP records of the family are aside unless they are read, and those of the other family are.
+#[test]
+fn table_dumps_are_aside_unless_they_are_read(rt: HostRuntime) -> Result<(), Fail> {
+    let dump = bytes_of(rt.alloc(), "table-dump")?;
+    for (family, table_dumps, aside) in [
+        (AddressFamily::Ipv4, TableDumpRule::Aside, 1),
+        (AddressFamily::Ipv4, TableDumpRule::Read, 0),
+        (AddressFamily::Ipv6, TableDumpRule::Aside, 1),
+        (AddressFamily::Ipv6, TableDumpRule::Read, 1),
+    ] {
+        let mut records = Records::new(rt.alloc(), family, table_dumps);
+        records.take(dump.as_slice());
+        let counts = (records.count(), records.aside());
+        assert!(rt; counts == (1, aside), "{aside}");
+    }
+    Ok(())
 }

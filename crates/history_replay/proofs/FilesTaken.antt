@@ -75,7 +75,7 @@ module _ {T : Type 0} (Took : T → List ReplayUnit → List Damage → Type 0) 
           let x = h.came contents known in
           let y = step x.0 x.1 in
           let none : y.0 ≡ [] = none_known next.file later y.0 (size ∙ sym at_end) y.1 in
-          let last : count_by (is_aside next.selection.rules.family) (cuts_to_come next y.0) ≡ 0 = ap (λ l. count_by (is_aside next.selection.rules.family) (cuts_to_come next l)) none in
+          let last : count_by (is_aside next.selection) (cuts_to_come next y.0) ≡ 0 = ap (λ l. count_by (is_aside next.selection) (cuts_to_come next l)) none in
           omega (arith, x.2.aside, y.2.aside, last);
       took = h.took;
       few = omega (arith, h.few);
@@ -122,12 +122,12 @@ module _ (start : UnitsState) (count max_records : ℕ) (until : UnitSelection) 
         let cuts : count_by is_whole (cuts_to_come start contents) ≡ count_by is_whole (all_cuts contents) = ap (count_by is_whole) all in
         omega (arith, h.records contents known_from, none, cuts)
 
-    pub aside_taken : cuts_to_come start contents ≡ all_cuts contents → last.aside ≡ aside_of until.rules.family contents
+    pub aside_taken : cuts_to_come start contents ≡ all_cuts contents → last.aside ≡ aside_of until contents
     aside_taken all =
         let none : start.aside ≡ 0 = ap (λ (u : UnitsState). u.aside) fresh in
-        let family = start.selection.rules.family in
-        let same : count_by (is_aside family) (all_cuts contents) ≡ aside_of until.rules.family contents = ap (λ (u : UnitsState). count_by (is_aside u.selection.rules.family) (all_cuts contents)) fresh in
-        let cuts : count_by (is_aside family) (cuts_to_come start contents) ≡ count_by (is_aside family) (all_cuts contents) = ap (count_by (is_aside family)) all in
+        let selection = start.selection in
+        let same : count_by (is_aside selection) (all_cuts contents) ≡ aside_of until contents = ap (λ (u : UnitsState). count_by (is_aside u.selection) (all_cuts contents)) fresh in
+        let cuts : count_by (is_aside selection) (cuts_to_come start contents) ≡ count_by (is_aside selection) (all_cuts contents) = ap (count_by (is_aside selection)) all in
         omega (arith, h.aside contents known_from, none, cuts, same)
 
 -- why a reading from the start stops

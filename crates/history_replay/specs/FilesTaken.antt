@@ -29,7 +29,7 @@ pub record HasTakenFiles {T : Type 0} (Took : T → List ReplayUnit → List Dam
   pub records : (contents : List (List ℕ)) → drop start.file told ≡ map (λ bytes. Some bytes) contents →
       start.records + count_by is_whole (cuts_to_come start contents) ≡ now.records
   pub aside : (contents : List (List ℕ)) → drop start.file told ≡ map (λ bytes. Some bytes) contents →
-      start.aside + count_by (is_aside start.selection.rules.family) (cuts_to_come start contents) ≡ now.aside
+      start.aside + count_by (is_aside start.selection) (cuts_to_come start contents) ≡ now.aside
   pub took : (units : List ReplayUnit) (refused : List Damage) → Took before units refused →
       Took after (units ++ filter_map unit_of items) (refused ++ filter_map damage_of items)
   pub few : length (filter_map unit_of items) ≤ most_units_left start

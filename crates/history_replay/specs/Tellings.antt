@@ -45,4 +45,4 @@ pub record IsHistoryOf {M A : Type 0} (listing : Listing) (selection : UnitSelec
   pub routes_counted : h.routes
       ≡ stopped (length (watch_routes selection.routes
       (watches_of listing.since (choices_of selection) (units_of selection files))))
-  pub aside_counted : h.aside ≡ aside_of selection.rules.family files
+  pub aside_counted : h.aside ≡ aside_of selection files

@@ -6,7 +6,7 @@ use Rattle.std.specs.Fmt.{digits}
 use Rattle.mrt_frame.proofs.Hexadecimal.{hex}
 use Rattle.mrt_frame.specs.declared.fault.Fault.TheVariants.{NoPeerIndex}
 use Rattle.mrt_frame.specs.Fields.{items_after}
-use Rattle.bgp_update.specs.Families.{ipv4}
+use Rattle.bgp_update.specs.Families.{ipv4, rules_of}
 use Rattle.bgp_update.specs.KeptAttributes.{no_attributes}
 use Rattle.bgp_update.specs.declared.width.Width.TheVariants.{Four}
 use Rattle.bgp_update.specs.Equality.{route_eq}
@@ -45,7 +45,7 @@ message offset seconds peer add_path bytes = record {
   place = record { file = 0; offset = offset; entry = None };
   time = seconds * 1000000;
   peer = record { asn = 65000; addr = addr.V4 peer };
-  payload = Message (hex (codes "FFFFFFFF FFFFFFFF FFFFFFFF FFFFFFFF") ++ bytes) Four add_path (record { family = ipv4; kept = no_attributes });
+  payload = Message (hex (codes "FFFFFFFF FFFFFFFF FFFFFFFF FFFFFFFF") ++ bytes) Four add_path (rules_of ipv4 no_attributes);
 }
 
 -- origin IGP, path 65000, next hop 192.0.2.1

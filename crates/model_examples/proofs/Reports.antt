@@ -13,8 +13,8 @@ use Rattle.bgp_update.specs.Segments.{path_in, segment_at, segment_field_at}
 use Rattle.bgp_update.specs.Updates.{fields_in, said_update, update_in}
 use Rattle.mrt_body.specs.Indexes.{index_in, index_head_at, peers_in, written_peer_at}
 use Rattle.mrt_body.specs.RibRecords.{rib_in, rib_head_at, entry_at}
-use Rattle.mrt_body.specs.Bgp4mp.{session_at, session_peer_at, states_in}
-use Rattle.mrt_body.specs.Units.{found_in, found_at, body_kind_of, message_unit, states_unit, units_of, refused_of}
+use Rattle.mrt_body.specs.Bgp4mp.{session_at, session_ends_at, session_peer_at, states_in, state_change_in}
+use Rattle.mrt_body.specs.Units.{found_in, found_at, body_kind_of, message_unit, units_of, refused_of}
 use Rattle.peer_units.specs.Events.{event_in, message_event_in, message_in}
 use Rattle.model_examples.proofs.Records.{marker_16, session_four, plain_attributes, announcement, announcement_of, announcement_with, state_change, withdrawal, extended_announcement, peer_table, rib_with, rib_record}
 use Rattle.adj_rib.specs.Steps.{unit_steps, steps_of}
@@ -58,7 +58,7 @@ one_file : AreReports (
     ∷ row (Churn None) extended_announcement (codes "65000 192.0.2.1|1|0|0|0|0|0|0|0|2.000000|2.000000" ∷ [])
     ∷ record { request = Churn None; until = Some 1; files = extended_announcement ∷ []; told = [] }
     ∷ [])
-unfolding digits address_text report text units_of refused_of found_in cuts cuts_within found_at body_kind_of message_unit states_unit session_peer_at session_at states_in index_in index_head_at peers_in written_peer_at rib_in rib_head_at entry_at items_after attribute_at attributes_in value_fault route_from entry_route route_in path_in segment_at segment_field_at written_key_at keys_in route_keys_in key_at reach_in reach_at hop_at unreach_in next_hop_of reached_keys unreached_keys fields_in said_update update_in message_in message_event_in event_in unit_steps steps_of route_eq outcomes_of churn_of damaged_of table_of session_of peers_of tables_of
+unfolding digits address_text report text units_of refused_of found_in cuts cuts_within found_at body_kind_of message_unit session_peer_at session_ends_at session_at states_in state_change_in index_in index_head_at peers_in written_peer_at rib_in rib_head_at entry_at items_after attribute_at attributes_in value_fault route_from entry_route route_in path_in segment_at segment_field_at written_key_at keys_in route_keys_in key_at reach_in reach_at hop_at unreach_in next_hop_of reached_keys unreached_keys fields_in said_update update_in message_in message_event_in event_in unit_steps steps_of route_eq outcomes_of churn_of damaged_of table_of session_of peers_of tables_of
 one_file = refl
 
 -- counts from a second on, over a replay from the beginning
@@ -68,7 +68,7 @@ from_the_second_on : AreReports (
     ∷ row (Churn (Some 0)) (announcement ++ announcement) (codes "65000 192.0.2.1|1|0|1|0|0|0|0|0|1.000000|1.000000" ∷ [])
     ∷ row (Churn (Some 2)) (announcement ++ state_change (hex (codes "0006 0001")) ++ announcement) (codes "65000 192.0.2.1|0|0|0|0|0|1|0|0|2.000000|2.000000" ∷ [])
     ∷ [])
-unfolding digits address_text report text units_of refused_of found_in cuts cuts_within found_at body_kind_of message_unit states_unit session_peer_at session_at states_in index_in index_head_at peers_in written_peer_at rib_in rib_head_at entry_at items_after attribute_at attributes_in value_fault route_from entry_route route_in path_in segment_at segment_field_at written_key_at keys_in route_keys_in key_at reach_in reach_at hop_at unreach_in next_hop_of reached_keys unreached_keys fields_in said_update update_in message_in message_event_in event_in unit_steps steps_of route_eq outcomes_of churn_of damaged_of table_of session_of peers_of tables_of churn_within notes_within idle_within unit_notes watch_of watches_of history_rows history_of
+unfolding digits address_text report text units_of refused_of found_in cuts cuts_within found_at body_kind_of message_unit session_peer_at session_ends_at session_at states_in state_change_in index_in index_head_at peers_in written_peer_at rib_in rib_head_at entry_at items_after attribute_at attributes_in value_fault route_from entry_route route_in path_in segment_at segment_field_at written_key_at keys_in route_keys_in key_at reach_in reach_at hop_at unreach_in next_hop_of reached_keys unreached_keys fields_in said_update update_in message_in message_event_in event_in unit_steps steps_of route_eq outcomes_of churn_of damaged_of table_of session_of peers_of tables_of churn_within notes_within idle_within unit_notes watch_of watches_of history_rows history_of
 from_the_second_on = refl
 
 -- a session that leaves Established, and comes back
@@ -80,7 +80,7 @@ state_changes : AreReports (
     ∷ row Tables (announcement ++ state_change (hex (codes "0006 0006"))) (plain_line ∷ [])
     ∷ row (Churn None) (announcement ++ state_change (hex (codes "0006 0006"))) (codes "65000 192.0.2.1|1|0|0|0|0|0|0|0|1.000000|2.000000" ∷ [])
     ∷ [])
-unfolding digits address_text report text units_of refused_of found_in cuts cuts_within found_at body_kind_of message_unit states_unit session_peer_at session_at states_in index_in index_head_at peers_in written_peer_at rib_in rib_head_at entry_at items_after attribute_at attributes_in value_fault route_from entry_route route_in path_in segment_at segment_field_at written_key_at keys_in route_keys_in key_at reach_in reach_at hop_at unreach_in next_hop_of reached_keys unreached_keys fields_in said_update update_in message_in message_event_in event_in unit_steps steps_of route_eq outcomes_of churn_of damaged_of table_of session_of peers_of tables_of
+unfolding digits address_text report text units_of refused_of found_in cuts cuts_within found_at body_kind_of message_unit session_peer_at session_ends_at session_at states_in state_change_in index_in index_head_at peers_in written_peer_at rib_in rib_head_at entry_at items_after attribute_at attributes_in value_fault route_from entry_route route_in path_in segment_at segment_field_at written_key_at keys_in route_keys_in key_at reach_in reach_at hop_at unreach_in next_hop_of reached_keys unreached_keys fields_in said_update update_in message_in message_event_in event_in unit_steps steps_of route_eq outcomes_of churn_of damaged_of table_of session_of peers_of tables_of
 state_changes = refl
 
 -- paths of two-octet AS numbers, merged; aggregators; a set
@@ -91,7 +91,7 @@ paths : AreReports (
     ∷ row Tables (with_aggregators (hex (codes "5BA0"))) (codes "65000 192.0.2.1|10.0.0.0/8|100 70000 70001|192.0.2.1|IGP|-|-|-|70000 192.0.2.9" ∷ [])
     ∷ row Tables (by_path_of (hex (codes "01"))) (codes "65000 192.0.2.2|10.0.0.0/8|{65001}|192.0.2.1|IGP|-|-|-|-" ∷ [])
     ∷ [])
-unfolding digits address_text report text units_of refused_of found_in cuts cuts_within found_at body_kind_of message_unit states_unit session_peer_at session_at states_in index_in index_head_at peers_in written_peer_at rib_in rib_head_at entry_at items_after attribute_at attributes_in value_fault route_from entry_route route_in path_in segment_at segment_field_at written_key_at keys_in route_keys_in key_at reach_in reach_at hop_at unreach_in next_hop_of reached_keys unreached_keys fields_in said_update update_in message_in message_event_in event_in unit_steps steps_of route_eq outcomes_of churn_of damaged_of table_of session_of peers_of tables_of
+unfolding digits address_text report text units_of refused_of found_in cuts cuts_within found_at body_kind_of message_unit session_peer_at session_ends_at session_at states_in state_change_in index_in index_head_at peers_in written_peer_at rib_in rib_head_at entry_at items_after attribute_at attributes_in value_fault route_from entry_route route_in path_in segment_at segment_field_at written_key_at keys_in route_keys_in key_at reach_in reach_at hop_at unreach_in next_hop_of reached_keys unreached_keys fields_in said_update update_in message_in message_event_in event_in unit_steps steps_of route_eq outcomes_of churn_of damaged_of table_of session_of peers_of tables_of
 paths = refl
 
 -- reports over several peers, and the longest match
@@ -104,7 +104,7 @@ peers : AreReports (
     ∷ row Origins (announcement ++ by_path_of (hex (codes "01"))) []
     ∷ row Origins (announcement ++ by_path_of (hex (codes "02"))) (codes "10.0.0.0/8|65000 65001" ∷ [])
     ∷ [])
-unfolding digits address_text report text units_of refused_of found_in cuts cuts_within found_at body_kind_of message_unit states_unit session_peer_at session_at states_in index_in index_head_at peers_in written_peer_at rib_in rib_head_at entry_at items_after attribute_at attributes_in value_fault route_from entry_route route_in path_in segment_at segment_field_at written_key_at keys_in route_keys_in key_at reach_in reach_at hop_at unreach_in next_hop_of reached_keys unreached_keys fields_in said_update update_in message_in message_event_in event_in unit_steps steps_of route_eq outcomes_of churn_of damaged_of table_of session_of peers_of tables_of
+unfolding digits address_text report text units_of refused_of found_in cuts cuts_within found_at body_kind_of message_unit session_peer_at session_ends_at session_at states_in state_change_in index_in index_head_at peers_in written_peer_at rib_in rib_head_at entry_at items_after attribute_at attributes_in value_fault route_from entry_route route_in path_in segment_at segment_field_at written_key_at keys_in route_keys_in key_at reach_in reach_at hop_at unreach_in next_hop_of reached_keys unreached_keys fields_in said_update update_in message_in message_event_in event_in unit_steps steps_of route_eq outcomes_of churn_of damaged_of table_of session_of peers_of tables_of
 peers = refl
 
 -- RIB records, and several files
@@ -118,7 +118,7 @@ rib_records : AreReports (
     ∷ record { request = Tables; until = None; files = take 76 announcement ∷ announcement ∷ []; told = plain_line ++ 10 ∷ [] }
     ∷ row Faults (announcement ++ hex (codes "000000")) (codes "1|77|-|1|ShortHeader" ∷ [])
     ∷ [])
-unfolding digits address_text report text units_of refused_of found_in cuts cuts_within found_at body_kind_of message_unit states_unit session_peer_at session_at states_in index_in index_head_at peers_in written_peer_at rib_in rib_head_at entry_at items_after attribute_at attributes_in value_fault route_from entry_route route_in path_in segment_at segment_field_at written_key_at keys_in route_keys_in key_at reach_in reach_at hop_at unreach_in next_hop_of reached_keys unreached_keys fields_in said_update update_in message_in message_event_in event_in unit_steps steps_of route_eq outcomes_of churn_of damaged_of table_of session_of peers_of tables_of
+unfolding digits address_text report text units_of refused_of found_in cuts cuts_within found_at body_kind_of message_unit session_peer_at session_ends_at session_at states_in state_change_in index_in index_head_at peers_in written_peer_at rib_in rib_head_at entry_at items_after attribute_at attributes_in value_fault route_from entry_route route_in path_in segment_at segment_field_at written_key_at keys_in route_keys_in key_at reach_in reach_at hop_at unreach_in next_hop_of reached_keys unreached_keys fields_in said_update update_in message_in message_event_in event_in unit_steps steps_of route_eq outcomes_of churn_of damaged_of table_of session_of peers_of tables_of
 rib_records = refl
 
 -- two paths of one prefix
@@ -132,7 +132,7 @@ path_identifiers : AreReports (
     ∷ row Tables (peer_table ++ rib_of_seven) (codes "65000 2001:0db8:0000:0000:0000:0000:0000:0001|10.0.0.0/8#7|65000|192.0.2.1|IGP|-|-|-|-" ∷ [])
     ∷ row Faults cut_identifier (codes "1|0|-|9|BadPrefix" ∷ [])
     ∷ [])
-unfolding digits address_text report text units_of refused_of found_in cuts cuts_within found_at body_kind_of message_unit states_unit session_peer_at session_at states_in index_in index_head_at peers_in written_peer_at rib_in rib_head_at entry_at items_after attribute_at attributes_in value_fault route_from entry_route route_in path_in segment_at segment_field_at written_key_at keys_in route_keys_in key_at reach_in reach_at hop_at unreach_in next_hop_of reached_keys unreached_keys fields_in said_update update_in message_in message_event_in event_in unit_steps steps_of route_eq outcomes_of churn_of damaged_of table_of session_of peers_of tables_of
+unfolding digits address_text report text units_of refused_of found_in cuts cuts_within found_at body_kind_of message_unit session_peer_at session_ends_at session_at states_in state_change_in index_in index_head_at peers_in written_peer_at rib_in rib_head_at entry_at items_after attribute_at attributes_in value_fault route_from entry_route route_in path_in segment_at segment_field_at written_key_at keys_in route_keys_in key_at reach_in reach_at hop_at unreach_in next_hop_of reached_keys unreached_keys fields_in said_update update_in message_in message_event_in event_in unit_steps steps_of route_eq outcomes_of churn_of damaged_of table_of session_of peers_of tables_of
 path_identifiers = refl
 
 -- attributes 14 and 15
@@ -149,7 +149,7 @@ multiprotocol : AreReports (
     ∷ row (Churn None) (announcement ++ reached) (codes "65000 192.0.2.1|1|1|0|0|0|0|0|0|1.000000|1.000000" ∷ [])
     ∷ row (Churn None) (announcement ++ state_change (hex (codes "0006 0001")) ++ reached) (codes "65000 192.0.2.1|1|0|0|0|0|1|1|0|1.000000|1.000000" ∷ [])
     ∷ [])
-unfolding digits address_text report text units_of refused_of found_in cuts cuts_within found_at body_kind_of message_unit states_unit session_peer_at session_at states_in index_in index_head_at peers_in written_peer_at rib_in rib_head_at entry_at items_after attribute_at attributes_in value_fault route_from entry_route route_in path_in segment_at segment_field_at written_key_at keys_in route_keys_in key_at reach_in reach_at hop_at unreach_in next_hop_of reached_keys unreached_keys fields_in said_update update_in message_in message_event_in event_in unit_steps steps_of route_eq outcomes_of churn_of damaged_of table_of session_of peers_of tables_of
+unfolding digits address_text report text units_of refused_of found_in cuts cuts_within found_at body_kind_of message_unit session_peer_at session_ends_at session_at states_in state_change_in index_in index_head_at peers_in written_peer_at rib_in rib_head_at entry_at items_after attribute_at attributes_in value_fault route_from entry_route route_in path_in segment_at segment_field_at written_key_at keys_in route_keys_in key_at reach_in reach_at hop_at unreach_in next_hop_of reached_keys unreached_keys fields_in said_update update_in message_in message_event_in event_in unit_steps steps_of route_eq outcomes_of churn_of damaged_of table_of session_of peers_of tables_of
 multiprotocol = refl
 
 -- each fault, alone in a file
@@ -175,7 +175,7 @@ faults : AreReports (
     ∷ row Faults (announcement_with marker_16 (hex (codes "002D 02 0000 0014")) (hex (codes "40010100 4002060501 0000FDE8 400304 C0000201"))) (codes "1|0|-|15|BadPath" ∷ [])
     ∷ row Faults (announcement_with marker_16 (hex (codes "002D 02 0000 0014")) (hex (codes "40010100 4002060200 0000FDE8 400304 C0000201"))) (codes "1|0|-|15|BadPath" ∷ [])
     ∷ [])
-unfolding digits address_text report text units_of refused_of found_in cuts cuts_within found_at body_kind_of message_unit states_unit session_peer_at session_at states_in index_in index_head_at peers_in written_peer_at rib_in rib_head_at entry_at items_after attribute_at attributes_in value_fault route_from entry_route route_in path_in segment_at segment_field_at written_key_at keys_in route_keys_in key_at reach_in reach_at hop_at unreach_in next_hop_of reached_keys unreached_keys fields_in said_update update_in message_in message_event_in event_in unit_steps steps_of route_eq outcomes_of churn_of damaged_of table_of session_of peers_of tables_of
+unfolding digits address_text report text units_of refused_of found_in cuts cuts_within found_at body_kind_of message_unit session_peer_at session_ends_at session_at states_in state_change_in index_in index_head_at peers_in written_peer_at rib_in rib_head_at entry_at items_after attribute_at attributes_in value_fault route_from entry_route route_in path_in segment_at segment_field_at written_key_at keys_in route_keys_in key_at reach_in reach_at hop_at unreach_in next_hop_of reached_keys unreached_keys fields_in said_update update_in message_in message_event_in event_in unit_steps steps_of route_eq outcomes_of churn_of damaged_of table_of session_of peers_of tables_of
 faults = refl
 
 -- counts that are too large or too small for what follows, and a record aside
@@ -186,5 +186,5 @@ counts : AreReports (
     ∷ row Faults (announcement_with marker_16 (hex (codes "002D 02 0000 0014")) (hex (codes "40010100 4002060202 0000FDE8 400304 C0000201"))) (codes "1|0|-|15|BadPath" ∷ [])
     ∷ row Tables (update (hex (codes "00000001 0010 000B 00000045")) session_four (hex (codes "0031 02 0000 0014") ++ plain_attributes ++ hex (codes "00000007 080A"))) []
     ∷ [])
-unfolding digits address_text report text units_of refused_of found_in cuts cuts_within found_at body_kind_of message_unit states_unit session_peer_at session_at states_in index_in index_head_at peers_in written_peer_at rib_in rib_head_at entry_at items_after attribute_at attributes_in value_fault route_from entry_route route_in path_in segment_at segment_field_at written_key_at keys_in route_keys_in key_at reach_in reach_at hop_at unreach_in next_hop_of reached_keys unreached_keys fields_in said_update update_in message_in message_event_in event_in unit_steps steps_of route_eq outcomes_of churn_of damaged_of table_of session_of peers_of tables_of
+unfolding digits address_text report text units_of refused_of found_in cuts cuts_within found_at body_kind_of message_unit session_peer_at session_ends_at session_at states_in state_change_in index_in index_head_at peers_in written_peer_at rib_in rib_head_at entry_at items_after attribute_at attributes_in value_fault route_from entry_route route_in path_in segment_at segment_field_at written_key_at keys_in route_keys_in key_at reach_in reach_at hop_at unreach_in next_hop_of reached_keys unreached_keys fields_in said_update update_in message_in message_event_in event_in unit_steps steps_of route_eq outcomes_of churn_of damaged_of table_of session_of peers_of tables_of
 counts = refl

@@ -29,10 +29,10 @@ use Rattle.peer_units.specs.declared.unit.Found.TheVariants as found
 use Rattle.peer_units.specs.declared.meaning.Event.TheVariants as event
 use Rattle.mrt_body.specs.Indexes.{index_in, index_head_at, peers_in, written_peer_at}
 use Rattle.mrt_body.specs.RibRecords.{rib_in, rib_head_at, entry_at}
-use Rattle.mrt_body.specs.Bgp4mp.{session_at, session_peer_at, states_in}
+use Rattle.mrt_body.specs.Bgp4mp.{session_at, session_ends_at, session_peer_at, states_in, state_change_in}
 use Rattle.peer_units.specs.Choices.{UnitSelection, PeerShare, all_of, all_units, peer_hash, share_from}
 use Rattle.peer_units.specs.declared.choice.PeerChoice.{PeerChoice}
-use Rattle.mrt_body.specs.Units.{found_in, found_at, body_kind_of, message_unit, states_unit, aside_of, records_of}
+use Rattle.mrt_body.specs.Units.{found_in, found_at, body_kind_of, message_unit, aside_of, records_of}
 use Rattle.peer_units.specs.Events.{event_in, message_event_in, message_in}
 use Rattle.model_examples.proofs.Records.{marker_16, session_four, plain_attributes, announcement, state_change, peer_table, rib_with, rib_record}
 
@@ -106,7 +106,7 @@ units_of_ipv4 : AreFound (
     ∷ (all_units, (peer_table ++ rib_with (hex (codes "080A")) (hex (codes "0002"))) ∷ [], refused_at 0 56 BadPeerIndex ∷ [])
     ∷ (all_units, (peer_table ++ rib_with (hex (codes "210A")) (hex (codes "0001"))) ∷ [], refused_at 0 56 BadPrefix ∷ [])
     ∷ [])
-unfolding found_in cuts cuts_within found_at body_kind_of message_unit states_unit session_peer_at session_at states_in index_in index_head_at peers_in written_peer_at rib_in rib_head_at entry_at
+unfolding found_in cuts cuts_within found_at body_kind_of message_unit session_peer_at session_ends_at session_at states_in state_change_in index_in index_head_at peers_in written_peer_at rib_in rib_head_at entry_at
 units_of_ipv4 = refl
 
 -- ---- selections
@@ -129,7 +129,7 @@ selected : AreFound (
     -- the faults of a record are listed, whatever peers are named
     ∷ (of_peers (record { asn = 1; addr = None } ∷ []), (peer_table ++ rib_with (hex (codes "080A")) (hex (codes "0002"))) ∷ [], refused_at 0 56 BadPeerIndex ∷ [])
     ∷ [])
-unfolding found_in cuts cuts_within found_at body_kind_of message_unit states_unit session_peer_at session_at states_in index_in index_head_at peers_in written_peer_at rib_in rib_head_at entry_at peer_hash
+unfolding found_in cuts cuts_within found_at body_kind_of message_unit session_peer_at session_ends_at session_at states_in state_change_in index_in index_head_at peers_in written_peer_at rib_in rib_head_at entry_at peer_hash
 selected = refl
 
 -- the last share of the greatest count, a number past the count, and a count that is too great
@@ -163,7 +163,7 @@ units_of_ipv6 : AreFound (
     -- a prefix of 129 bits
     ∷ (all_of (rules_of ipv6 no_attributes), (peer_table ++ hex (codes "00000003 000D 0004 00000018 00000000 81 20010DB8000000000000000000000000 00 0000")) ∷ [], refused_at 0 56 BadPrefix ∷ [])
     ∷ [])
-unfolding found_in cuts cuts_within found_at body_kind_of message_unit states_unit session_peer_at session_at states_in index_in index_head_at peers_in written_peer_at rib_in rib_head_at entry_at
+unfolding found_in cuts cuts_within found_at body_kind_of message_unit session_peer_at session_ends_at session_at states_in state_change_in index_in index_head_at peers_in written_peer_at rib_in rib_head_at entry_at
 units_of_ipv6 = refl
 
 -- ---- counts
@@ -172,7 +172,7 @@ abbrev aside_record : List ℕ
 aside_record = hex (codes "00000001 000C 0001 00000000")
 
 -- records that are set aside: a message that was sent, another type, and RIB records of the other family
-set_aside : aside_of ipv4 (hex (codes "00000001 0010 000B 00000000") ∷ []) ∷ aside_of ipv4 ((aside_record ++ announcement) ∷ []) ∷ aside_of ipv6 ((peer_table ++ rib_record) ∷ []) ∷ aside_of ipv4 ((peer_table ++ wide_record) ∷ []) ∷ [] ≡ 1 ∷ 1 ∷ 1 ∷ 1 ∷ []
+set_aside : aside_of all_units (hex (codes "00000001 0010 000B 00000000") ∷ []) ∷ aside_of all_units ((aside_record ++ announcement) ∷ []) ∷ aside_of (all_of (rules_of ipv6 no_attributes)) ((peer_table ++ rib_record) ∷ []) ∷ aside_of all_units ((peer_table ++ wide_record) ∷ []) ∷ [] ≡ 1 ∷ 1 ∷ 1 ∷ 1 ∷ []
 unfolding cuts cuts_within body_kind_of
 set_aside = refl
 

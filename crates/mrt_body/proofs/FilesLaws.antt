@@ -67,7 +67,7 @@ module _ (old : UnitsState) (pending : List ReplayUnit) where
       found = ap (λ (l : List ReplayUnit). as_found l ++ found_left old contents) parts ∙ ap (λ (l : List Found). l ++ found_left old contents) (map-append (λ u. found.Unit u) given pending) ∙ append_assoc (as_found given) (as_found pending) (found_left old contents)
           ∙ ap (λ (l : List Found). as_found given ++ (as_found pending ++ l)) (gave_left contents);
       records = ap (λ (cs : List Cut). old.records + count_by is_whole cs) (gave_cuts contents);
-      aside = ap (λ (cs : List Cut). old.aside + count_by (is_aside old.selection.rules.family) cs) (gave_cuts contents);
+      aside = ap (λ (cs : List Cut). old.aside + count_by (is_aside old.selection) cs) (gave_cuts contents);
     },
   )
 
@@ -119,7 +119,7 @@ module _ (old : UnitsState) (frames : Position) (index : Option (List PeerKey)) 
             ∙ ap (λ (l : List Found). l ++ others) s.found ∙ append_assoc taken (as_found pending ++ found_here stayed rest) others
             ∙ ap (λ (l : List Found). taken ++ l) (append_assoc (as_found pending) (found_here stayed rest) others);
         records = counted_on is_whole old.records records (to_come old.frames bytes) (to_come frames rest) (all_cuts later) s.records;
-        aside = counted_on (is_aside old.selection.rules.family) old.aside aside (to_come old.frames bytes) (to_come frames rest) (all_cuts later) s.aside;
+        aside = counted_on (is_aside old.selection) old.aside aside (to_come old.frames bytes) (to_come frames rest) (all_cuts later) s.aside;
       }
 
 -- no more of it is to come
@@ -143,7 +143,7 @@ module _ (old : UnitsState) where
             ∙ ap (λ (d : DumpsState). found_here old bytes ++ found_in_files old.selection (old.file + 1) d later) s.dumps
             ∙ ap (λ (l : List Found). l ++ others) s.found ∙ ap (λ (l : List Found). taken ++ l) (next_left later);
         records = counted_next is_whole old.records (to_come old.frames bytes) later s.records;
-        aside = counted_next (is_aside old.selection.rules.family) old.aside (to_come old.frames bytes) later s.aside;
+        aside = counted_next (is_aside old.selection) old.aside (to_come old.frames bytes) later s.aside;
       }
 
 module _ (old new : UnitsState) (before : List (Option Bytes)) (known left : Option Bytes) (taken : List Found) where

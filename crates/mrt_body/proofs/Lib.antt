@@ -11,12 +11,17 @@ pub mod ShortFields
 pub mod PeerFaults
 pub mod RibFaults
 pub mod SessionFaults
+pub mod OldForms
+pub mod OldFaults
+pub mod OldParts
 pub mod RefusalLaws
 pub mod Behind
 pub mod SessionLaws
 pub mod TakeLaws
 pub mod WaitingLaws
 pub mod HeardLaws
+pub mod KnownLaws
+pub mod TellLaws
 pub mod StepLaws
 pub mod FilesLaws
 pub mod HeadParts

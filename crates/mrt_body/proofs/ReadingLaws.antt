@@ -47,7 +47,7 @@ module _ (count max_records : ℕ) (selection : UnitSelection) (last : UnitsStat
         };
       }
 
-  pub gave_all : Gave → HasEnded last → length left ≡ last.count → (given ≡ found_in selection contents) × (last.records ≡ records_of contents) × (last.aside ≡ aside_of selection.rules.family contents)
+  pub gave_all : Gave → HasEnded last → length left ≡ last.count → (given ≡ found_in selection contents) × (last.records ≡ records_of contents) × (last.aside ≡ aside_of selection contents)
   gave_all gave ended size =
       let t = gave contents refl in
       let past : drop last.file left ≡ [] = drop_all last.file left (omega (arith, size, ended.1)) in
@@ -56,5 +56,5 @@ module _ (count max_records : ℕ) (selection : UnitSelection) (last : UnitsStat
       let no_cuts : cuts_to_come last t.0 ≡ [] = ap (cuts_to_come last) none in
       let cuts = fresh_cuts count max_records selection contents in
       let whole : last.records ≡ records_of contents = omega (arith, t.2.records, ap (count_by is_whole) no_cuts, ap (count_by is_whole) cuts) in
-      let aside : last.aside ≡ aside_of selection.rules.family contents = omega (arith, t.2.aside, ap (count_by (is_aside last.selection.rules.family)) no_cuts, ap (count_by (is_aside selection.rules.family)) cuts) in
+      let aside : last.aside ≡ aside_of selection contents = omega (arith, t.2.aside, ap (count_by (is_aside last.selection)) no_cuts, ap (count_by (is_aside selection)) cuts) in
       (sym (sym (fresh_found count max_records selection contents) ∙ t.2.found ∙ ap (λ (l : List Found). given ++ l) nothing ∙ append-nil given), whole, aside)

@@ -75,7 +75,7 @@ entry_unknown add_path peers peer rest fits unknown = rw (number_at-again ShortR
 abbrev octets_of : ℕ → List ℕ → Reading (List ℕ)
 octets_of len rest = Ok (take (div_ceil len 8) rest, drop (div_ceil len 8) rest)
 
-octets_refused : (width len : ℕ) (rest : List ℕ) (fault : Fault) → octets_at width len rest ≡ Err fault → (fault ≡ BadPrefix) × ((width < len) ⊎ (length rest < div_ceil len 8))
+pub octets_refused : (width len : ℕ) (rest : List ℕ) (fault : Fault) → octets_at width len rest ≡ Err fault → (fault ≡ BadPrefix) × ((width < len) ⊎ (length rest < div_ceil len 8))
 octets_refused width len rest fault e = tested (ltb width len) (ltb (length rest) (div_ceil len 8)) (λ h. ltb-true _ _ h) (λ h. ltb-true _ _ h) e
   where
     tested : (a b : Bool) → (a ≡ true → width < len) → (b ≡ true → length rest < div_ceil len 8) → cond (a || b) (Err BadPrefix) (octets_of len rest) ≡ Err fault → (fault ≡ BadPrefix) × ((width < len) ⊎ (length rest < div_ceil len 8))
@@ -83,7 +83,7 @@ octets_refused width len rest fault e = tested (ltb width len) (ltb (length rest
     tested false true long few h = (cc, inr (few refl))
     tested false false long few h = absurd cc
 
-octets_bad : (width len : ℕ) (rest : List ℕ) → (width < len) ⊎ (length rest < div_ceil len 8) → octets_at width len rest ≡ Err BadPrefix
+pub octets_bad : (width len : ℕ) (rest : List ℕ) → (width < len) ⊎ (length rest < div_ceil len 8) → octets_at width len rest ≡ Err BadPrefix
 octets_bad width len rest (inl long) = rw (lt-ltb width len long) refl
 octets_bad width len rest (inr few) = rw (lt-ltb (length rest) (div_ceil len 8) few) (either (ltb width len))
   where

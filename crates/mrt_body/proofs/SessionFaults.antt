@@ -1,5 +1,5 @@
 -- Which fault a BGP4MP record has.
-use Rattle.std.proofs.Common.{◌≡◌, ◌≢◌, ◌⊎◌, inl, inr, ℕ, ◌<◌, ◌^◌, Bool, true, false, cond, eqb, List, [], ◌∷◌, ◌++◌, length, Result, Ok, Err, refl, sym, ap, ◌∙◌, append_assoc, arith}
+use Rattle.std.proofs.Common.{◌≡◌, ◌≢◌, ◌⊎◌, inl, inr, ℕ, ◌<◌, ◌^◌, Bool, true, false, cond, eqb, List, [], ◌∷◌, ◌++◌, length, Ok, Err, refl, sym, ap, ◌∙◌, append_assoc, arith}
 use Rattle.std.proofs.lemmas.Bool.Decides.{nat_tests}
 use Rattle.byteorder.specs.Endian.{big_bytes}
 use Rattle.mrt_frame.specs.declared.fault.Fault.{Fault}
@@ -11,21 +11,20 @@ use Rattle.bgp_update.specs.Segments.{number_len}
 use Rattle.bgp_update.specs.Families.{Rules}
 use Rattle.bgp_update.proofs.Readings.{mapped_err}
 use Rattle.mrt_body.specs.declared.record_place.RecordAt.{RecordAt}
-use Rattle.peer_units.specs.declared.state_rule.StateRule.{StateRule}
 use Rattle.peer_units.specs.declared.unit.PeerAddr.{PeerAddr}
-use Rattle.peer_units.specs.declared.unit.PeerKey.{PeerKey}
-use Rattle.peer_units.specs.declared.unit.Payload.TheVariants.{State, Message}
-use Rattle.peer_units.specs.Plain.{Unit as ReplayUnit}
+use Rattle.peer_units.specs.declared.unit.Payload.TheVariants.{Message}
+use Rattle.mrt_body.specs.declared.bgp4mp.SessionEnds.{SessionEnds}
+use Rattle.mrt_body.specs.declared.bgp4mp.StateChange.{StateChange}
 use Rattle.mrt_body.specs.Many.{ended}
 use Rattle.mrt_body.specs.Indexes.{asn_bytes, addr_at, asn_at}
-use Rattle.mrt_body.specs.Bgp4mp.{SessionForm, session_bytes, session_peer, family_at, session_at, session_peer_at, states_in, microseconds_at, microseconds_bytes}
-use Rattle.mrt_body.specs.Units.{session_unit, message_unit, states_unit}
+use Rattle.mrt_body.specs.Bgp4mp.{SessionForm, session_bytes, session_ends, session_peer, family_at, session_at, session_ends_at, session_peer_at, states_in, change_with, state_change_in, microseconds_at, microseconds_bytes}
+use Rattle.mrt_body.specs.Units.{session_unit, message_unit}
 use Rattle.mrt_body.specs.Agreement.{IsStatesBody}
 use Rattle.mrt_body.specs.Refusals.{HasOtherFamily}
 use Rattle.mrt_body.proofs.ManyLaws.{bind_err}
 use Rattle.peer_units.proofs.MessageLaws.{ok_never}
 use Rattle.mrt_body.proofs.ShortFields.{IsShort, then_short, number_short, addr_short, asn_short}
-use Rattle.mrt_body.proofs.SessionForms.{peer_takes, peer_again, microseconds_take, microseconds_again}
+use Rattle.mrt_body.proofs.SessionForms.{ends_take, ends_again, microseconds_take, microseconds_again}
 
 -- ---- the family
 
@@ -132,14 +131,23 @@ unfolding session_at
 session_other width peer_as local_as interface family rest fa fb fi ff one two =
     rw (number_at-again ShortRecord (number_len width) peer_as (asn_bytes width local_as ++ (big_bytes 2 interface ++ (big_bytes 2 family ++ rest))) fa, number_at-again ShortRecord (number_len width) local_as (big_bytes 2 interface ++ (big_bytes 2 family ++ rest)) fb, number_at-again ShortRecord 2 interface (big_bytes 2 family ++ rest) fi, family_other family rest ff one two) refl
 
-peer_refused : (width : Width) (bytes : List ℕ) (fault : Fault) → IsBytes bytes → session_peer_at width bytes ≡ Err fault → ((fault ≡ BadFamily) × OtherSession width bytes) ⊎ (fault ≡ ShortRecord)
+peer_err : (width : Width) (bytes : List ℕ) (fault : Fault) → session_peer_at width bytes ≡ Err fault → session_at width bytes ≡ Err fault
 unfolding session_peer_at
-peer_refused width bytes fault fine e = session_refused width bytes fault fine (mapped_err (session_at width bytes) (λ s. (session_peer s.0, s.1)) fault e)
+peer_err width bytes fault e = mapped_err (session_at width bytes) (λ s. (session_peer s.0, s.1)) fault e
+
+ends_err : (width : Width) (bytes : List ℕ) (fault : Fault) → session_ends_at width bytes ≡ Err fault → session_at width bytes ≡ Err fault
+unfolding session_ends_at
+ends_err width bytes fault e = mapped_err (session_at width bytes) (λ s. (session_ends s.0, s.1)) fault e
 
 peer_other : (width : Width) (peer_as local_as interface family : ℕ) (rest : List ℕ) → peer_as < 256 ^ number_len width → local_as < 256 ^ number_len width → interface < 256 ^ 2 → family < 256 ^ 2 → family ≢ 1 → family ≢ 2
     → session_peer_at width (asn_bytes width peer_as ++ (asn_bytes width local_as ++ (big_bytes 2 interface ++ (big_bytes 2 family ++ rest)))) ≡ Err BadFamily
 unfolding session_peer_at
 peer_other width peer_as local_as interface family rest fa fb fi ff one two = rw (session_other width peer_as local_as interface family rest fa fb fi ff one two) refl
+
+ends_other : (width : Width) (peer_as local_as interface family : ℕ) (rest : List ℕ) → peer_as < 256 ^ number_len width → local_as < 256 ^ number_len width → interface < 256 ^ 2 → family < 256 ^ 2 → family ≢ 1 → family ≢ 2
+    → session_ends_at width (asn_bytes width peer_as ++ (asn_bytes width local_as ++ (big_bytes 2 interface ++ (big_bytes 2 family ++ rest)))) ≡ Err BadFamily
+unfolding session_ends_at
+ends_other width peer_as local_as interface family rest fa fb fi ff one two = rw (session_other width peer_as local_as interface family rest fa fb fi ff one two) refl
 
 -- ---- microseconds, and the session behind them
 
@@ -147,8 +155,8 @@ microseconds_short : (extended : Bool) (body : List ℕ) → IsShort (microsecon
 microseconds_short true body fault e = number_short 4 body fault e
 microseconds_short false body fault e = absurd cc
 
-other_family : (extended : Bool) (width : Width) (body : List ℕ) (fault : Fault) (m : ℕ × List ℕ) → IsBytes body → microseconds_at extended body ≡ Ok m → session_peer_at width m.1 ≡ Err fault → ((fault ≡ BadFamily) × HasOtherFamily extended width body) ⊎ (fault ≡ ShortRecord)
-other_family extended width body fault m fine m_is e = by_session (peer_refused width m.1 fault (microseconds_take extended body m fine m_is).fine e)
+other_family : (extended : Bool) (width : Width) (body : List ℕ) (fault : Fault) (m : ℕ × List ℕ) → IsBytes body → microseconds_at extended body ≡ Ok m → session_at width m.1 ≡ Err fault → ((fault ≡ BadFamily) × HasOtherFamily extended width body) ⊎ (fault ≡ ShortRecord)
+other_family extended width body fault m fine m_is e = by_session (session_refused width m.1 fault (microseconds_take extended body m fine m_is).fine e)
   where
     by_session : ((fault ≡ BadFamily) × OtherSession width m.1) ⊎ (fault ≡ ShortRecord) → ((fault ≡ BadFamily) × HasOtherFamily extended width body) ⊎ (fault ≡ ShortRecord)
     by_session (inr short) = inr short
@@ -184,7 +192,7 @@ module _ (rules : Rules) (at : RecordAt) (extended : Bool) (width : Width) where
   unfolding message_unit
   message_refused add_path body fault fine e =
       then_short (microseconds_at extended body) (λ m. session_peer_at width m.1 >>= λ peer. Ok (session_unit at m.0 peer.0 (Message peer.1 width add_path rules))) fault (microseconds_short extended body) (λ m m_is me.
-      other_family extended width body fault m fine m_is (mapped_err (session_peer_at width m.1) (λ peer. session_unit at m.0 peer.0 (Message peer.1 width add_path rules)) fault me)) e
+      other_family extended width body fault m fine m_is (peer_err width m.1 fault (mapped_err (session_peer_at width m.1) (λ peer. session_unit at m.0 peer.0 (Message peer.1 width add_path rules)) fault me))) e
 
   pub message_other : (add_path : Bool) (body : List ℕ) → HasOtherFamily extended width body → message_unit rules at extended width add_path body ≡ Err BadFamily
   unfolding message_unit
@@ -202,17 +210,14 @@ pub record StatesAndMore (bytes : List ℕ) : Type 0 where
   pub parts : bytes ≡ big_bytes 2 from ++ (big_bytes 2 to ++ more)
   pub some : 0 < length more
 
-abbrev pair_ended : ℕ × ℕ → List ℕ → Result (ℕ × ℕ) Fault
-pair_ended s rest = ended s rest
-
-pub ended_err : (s : ℕ × ℕ) (rest : List ℕ) (fault : Fault) → pair_ended s rest ≡ Err fault → (fault ≡ TrailingBytes) × (0 < length rest)
+pub ended_err : {A : Type 0} (s : A) (rest : List ℕ) (fault : Fault) → ended s rest ≡ Err fault → (fault ≡ TrailingBytes) × (0 < length rest)
 ended_err s [] fault e = absurd cc
 ended_err s (b ∷ rest) fault e =
     let some : eqb (length (b ∷ rest)) 0 ≡ false = grind arith in
     let h = rw some at e in
     (cc, omega arith)
 
-ended_more : (s : ℕ × ℕ) (rest : List ℕ) → 0 < length rest → pair_ended s rest ≡ Err TrailingBytes
+pub ended_more : {A : Type 0} (s : A) (rest : List ℕ) → 0 < length rest → ended s rest ≡ Err TrailingBytes
 ended_more s [] some = absurd (omega (arith, some))
 ended_more s (b ∷ rest) some = let long : eqb (length (b ∷ rest)) 0 ≡ false = grind arith in rw long refl
 
@@ -233,67 +238,67 @@ states_more bytes h =
     rw (first, number_at-again ShortRecord 2 h.to h.more h.to_below) (ended_more (h.from, h.to) h.more h.some)
 
 -- a state change, and then more bytes
-pub record ChangeAndMore (rule : StateRule) (at : RecordAt) (extended : Bool) (width : Width) (body : List ℕ) : Type 0 where
+pub record ChangeAndMore (extended : Bool) (width : Width) (body : List ℕ) : Type 0 where
   pub front : List ℕ
   pub more : List ℕ
-  pub unit : ReplayUnit
+  pub change : StateChange
   pub parts : body ≡ front ++ more
   pub some : 0 < length more
-  pub agrees : IsStatesBody rule at extended width front unit
+  pub agrees : IsStatesBody extended width front change
 
 regroup : (a b c d more : List ℕ) → a ++ (b ++ (c ++ (d ++ more))) ≡ (a ++ (b ++ (c ++ d))) ++ more
 regroup a b c d more = sym (simp append_assoc)
 
-module _ (rule : StateRule) (at : RecordAt) (extended : Bool) (width : Width) (body : List ℕ) where
-  change_of : (fault : Fault) (m : ℕ × List ℕ) (p : PeerKey × List ℕ) → IsBytes body → microseconds_at extended body ≡ Ok m → session_peer_at width m.1 ≡ Ok p → StatesAndMore p.1 → ChangeAndMore rule at extended width body
+module _ (extended : Bool) (width : Width) (body : List ℕ) where
+  change_of : (fault : Fault) (m : ℕ × List ℕ) (p : SessionEnds × List ℕ) → IsBytes body → microseconds_at extended body ≡ Ok m → session_ends_at width m.1 ≡ Ok p → StatesAndMore p.1 → ChangeAndMore extended width body
   change_of fault m p fine m_is p_is s =
       let tm = microseconds_take extended body m fine m_is in
-      let tp = peer_takes width m.1 p tm.fine p_is in
+      let tp = ends_take width m.1 p tm.fine p_is in
       let a : List ℕ = microseconds_bytes extended m.0 in
       let b : List ℕ = session_bytes width tp.session in
       record {
         front = a ++ (b ++ (big_bytes 2 s.from ++ big_bytes 2 s.to));
         more = s.more;
-        unit = session_unit at m.0 (session_peer tp.session) (State s.from s.to rule);
+        change = change_with m.0 (session_ends tp.session) (s.from, s.to);
         parts = tm.parts ∙ ap (λ (l : List ℕ). a ++ l) (tp.takes.parts ∙ ap (λ (l : List ℕ). b ++ l) s.parts) ∙ regroup a b (big_bytes 2 s.from) (big_bytes 2 s.to) s.more;
         some = s.some;
         agrees = record { microseconds = m.0; session = tp.session; from = s.from; to = s.to; fits_microseconds = tm.fits; fits_session = tp.takes.fits; fits_from = s.from_below; fits_to = s.to_below; spelled = refl; said = refl };
       }
 
   abbrev pub ChangeFault : Fault → Type 0
-  ChangeFault fault = ((fault ≡ BadFamily) × HasOtherFamily extended width body) ⊎ ((fault ≡ TrailingBytes) × ChangeAndMore rule at extended width body)
+  ChangeFault fault = ((fault ≡ BadFamily) × HasOtherFamily extended width body) ⊎ ((fault ≡ TrailingBytes) × ChangeAndMore extended width body)
 
   of_family : (fault : Fault) → ((fault ≡ BadFamily) × HasOtherFamily extended width body) ⊎ (fault ≡ ShortRecord) → ChangeFault fault ⊎ (fault ≡ ShortRecord)
   of_family fault (inl h) = inl (inl h)
   of_family fault (inr h) = inr h
 
-  of_states : (fault : Fault) (m : ℕ × List ℕ) (p : PeerKey × List ℕ) → IsBytes body → microseconds_at extended body ≡ Ok m → session_peer_at width m.1 ≡ Ok p → ((fault ≡ TrailingBytes) × StatesAndMore p.1) ⊎ (fault ≡ ShortRecord) → ChangeFault fault ⊎ (fault ≡ ShortRecord)
+  of_states : (fault : Fault) (m : ℕ × List ℕ) (p : SessionEnds × List ℕ) → IsBytes body → microseconds_at extended body ≡ Ok m → session_ends_at width m.1 ≡ Ok p → ((fault ≡ TrailingBytes) × StatesAndMore p.1) ⊎ (fault ≡ ShortRecord) → ChangeFault fault ⊎ (fault ≡ ShortRecord)
   of_states fault m p fine m_is p_is (inl h) = inl (inr (h.0, change_of fault m p fine m_is p_is h.1))
   of_states fault m p fine m_is p_is (inr h) = inr h
 
-  pub change_refused : (fault : Fault) → IsBytes body → states_unit rule at extended width body ≡ Err fault → ChangeFault fault ⊎ (fault ≡ ShortRecord)
-  unfolding states_unit
+  pub change_refused : (fault : Fault) → IsBytes body → state_change_in extended width body ≡ Err fault → ChangeFault fault ⊎ (fault ≡ ShortRecord)
+  unfolding state_change_in
   change_refused fault fine e =
-      then_short (microseconds_at extended body) (λ m. session_peer_at width m.1 >>= λ peer. states_in peer.1 >>= λ s. Ok (session_unit at m.0 peer.0 (State s.0 s.1 rule))) fault (microseconds_short extended body) (λ m m_is me.
-      by_peer m m_is (bind_err (session_peer_at width m.1) (λ peer. states_in peer.1 >>= λ s. Ok (session_unit at m.0 peer.0 (State s.0 s.1 rule))) fault me)) e
+      then_short (microseconds_at extended body) (λ m. session_ends_at width m.1 >>= λ ends. states_in ends.1 >>= λ s. Ok (change_with m.0 ends.0 s)) fault (microseconds_short extended body) (λ m m_is me.
+      by_peer m m_is (bind_err (session_ends_at width m.1) (λ ends. states_in ends.1 >>= λ s. Ok (change_with m.0 ends.0 s)) fault me)) e
     where
-      by_peer : (m : ℕ × List ℕ) → microseconds_at extended body ≡ Ok m → (session_peer_at width m.1 ≡ Err fault) ⊎ ((p : PeerKey × List ℕ) × (session_peer_at width m.1 ≡ Ok p) × ((states_in p.1 >>= λ s. Ok (session_unit at m.0 p.0 (State s.0 s.1 rule))) ≡ Err fault)) → ChangeFault fault ⊎ (fault ≡ ShortRecord)
-      by_peer m m_is (inl h) = of_family fault (other_family extended width body fault m fine m_is h)
+      by_peer : (m : ℕ × List ℕ) → microseconds_at extended body ≡ Ok m → (session_ends_at width m.1 ≡ Err fault) ⊎ ((p : SessionEnds × List ℕ) × (session_ends_at width m.1 ≡ Ok p) × ((states_in p.1 >>= λ s. Ok (change_with m.0 p.0 s)) ≡ Err fault)) → ChangeFault fault ⊎ (fault ≡ ShortRecord)
+      by_peer m m_is (inl h) = of_family fault (other_family extended width body fault m fine m_is (ends_err width m.1 fault h))
       by_peer m m_is (inr h) =
           let p = h.0 in
-          let fine_p = (peer_takes width m.1 p (microseconds_take extended body m fine m_is).fine h.1).takes.fine in
-          of_states fault m p fine m_is h.1 (states_refused p.1 fault fine_p (mapped_err (states_in p.1) (λ s. session_unit at m.0 p.0 (State s.0 s.1 rule)) fault h.2))
+          let fine_p = (ends_take width m.1 p (microseconds_take extended body m fine m_is).fine h.1).takes.fine in
+          of_states fault m p fine m_is h.1 (states_refused p.1 fault fine_p (mapped_err (states_in p.1) (λ s. change_with m.0 p.0 s) fault h.2))
 
-  pub change_other : HasOtherFamily extended width body → states_unit rule at extended width body ≡ Err BadFamily
-  unfolding states_unit
-  change_other h = rw (behind_microseconds extended width body h, peer_other width h.peer_as h.local_as h.interface h.family h.rest h.fits_peer_as h.fits_local_as h.fits_interface h.fits_family h.other.0 h.other.1) refl
+  pub change_other : HasOtherFamily extended width body → state_change_in extended width body ≡ Err BadFamily
+  unfolding state_change_in
+  change_other h = rw (behind_microseconds extended width body h, ends_other width h.peer_as h.local_as h.interface h.family h.rest h.fits_peer_as h.fits_local_as h.fits_interface h.fits_family h.other.0 h.other.1) refl
 
-  pub change_goes_on : (front more : List ℕ) (unit : ReplayUnit) → body ≡ front ++ more → 0 < length more → IsStatesBody rule at extended width front unit → states_unit rule at extended width body ≡ Err TrailingBytes
-  unfolding states_unit
-  change_goes_on front more unit parts some h =
+  pub change_goes_on : (front more : List ℕ) (change : StateChange) → body ≡ front ++ more → 0 < length more → IsStatesBody extended width front change → state_change_in extended width body ≡ Err TrailingBytes
+  unfolding state_change_in
+  change_goes_on front more change parts some h =
       let a : List ℕ = microseconds_bytes extended h.microseconds in
       let b : List ℕ = session_bytes width h.session in
       let states : List ℕ = big_bytes 2 h.from ++ (big_bytes 2 h.to ++ more) in
       let whole : body ≡ a ++ (b ++ states) = parts ∙ ap (λ (l : List ℕ). l ++ more) h.spelled ∙ sym (regroup a b (big_bytes 2 h.from) (big_bytes 2 h.to) more) in
       let m : microseconds_at extended body ≡ Ok (h.microseconds, b ++ states) = ap (microseconds_at extended) whole ∙ microseconds_again extended h.microseconds (b ++ states) h.fits_microseconds in
-      rw (m, peer_again width h.session states h.fits_session, states_more states (record { from = h.from; to = h.to; more = more; from_below = h.fits_from; to_below = h.fits_to; parts = refl; some = some })) refl
+      rw (m, ends_again width h.session states h.fits_session, states_more states (record { from = h.from; to = h.to; more = more; from_below = h.fits_from; to_below = h.fits_to; parts = refl; some = some })) refl

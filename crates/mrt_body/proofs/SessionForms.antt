@@ -12,13 +12,14 @@ use Rattle.bgp_update.specs.Families.{Rules}
 use Rattle.mrt_body.specs.declared.record_place.RecordAt.{RecordAt}
 use Rattle.peer_units.specs.declared.unit.PeerAddr.{PeerAddr}
 use Rattle.peer_units.specs.declared.unit.PeerKey.{PeerKey}
-use Rattle.peer_units.specs.declared.state_rule.StateRule.{StateRule}
-use Rattle.peer_units.specs.declared.unit.Payload.TheVariants.{State, Message}
+use Rattle.peer_units.specs.declared.unit.Payload.TheVariants.{Message}
 use Rattle.peer_units.specs.Plain.{Unit as ReplayUnit}
+use Rattle.mrt_body.specs.declared.bgp4mp.SessionEnds.{SessionEnds}
+use Rattle.mrt_body.specs.declared.bgp4mp.StateChange.{StateChange}
 use Rattle.mrt_body.specs.Many.{ended}
 use Rattle.mrt_body.specs.Indexes.{addr_bytes, is_ipv6, asn_bytes, addr_at, asn_at}
-use Rattle.mrt_body.specs.Bgp4mp.{SessionForm, family_of, session_bytes, FitsSession, session_peer, family_at, session_at, session_peer_at, states_in, microseconds_at, microseconds_bytes, FitsMicroseconds}
-use Rattle.mrt_body.specs.Units.{session_unit, message_unit, states_unit}
+use Rattle.mrt_body.specs.Bgp4mp.{SessionForm, family_of, session_bytes, FitsSession, session_ends, session_peer, family_at, session_at, session_ends_at, session_peer_at, states_in, change_with, state_change_in, microseconds_at, microseconds_bytes, FitsMicroseconds}
+use Rattle.mrt_body.specs.Units.{session_unit, message_unit}
 use Rattle.mrt_body.specs.Agreement.{IsMessageBody, IsStatesBody}
 use Rattle.mrt_body.proofs.PeerForms.{addr_takes, addr_again}
 
@@ -163,7 +164,7 @@ pub record TakesStates (bytes : List ℕ) (from to : ℕ) : Type 0 where
   pub from_below : from < 256 ^ 2
   pub to_below : to < 256 ^ 2
 
-ended_is : (s y : ℕ × ℕ) (rest : List ℕ) → ended s rest ≡ Ok y → (rest ≡ []) × (s ≡ y)
+pub ended_is : {A : Type 0} (s y : A) (rest : List ℕ) → ended s rest ≡ Ok y → (rest ≡ []) × (s ≡ y)
 ended_is s y [] e = (refl, ok_is s y e)
 ended_is s y (b ∷ rest) e =
     let some : eqb (length (b ∷ rest)) 0 ≡ false = grind arith in
@@ -193,14 +194,31 @@ states_again from to from_below to_below =
     let second : number_at ShortRecord 2 (big_bytes 2 to) ≡ Ok (to, []) = ap (number_at ShortRecord 2) (append-nil (big_bytes 2 to)) ∙ number_at-again ShortRecord 2 to [] to_below in
     states_are (big_bytes 2 from ++ big_bytes 2 to) (big_bytes 2 to) from to (number_at-again ShortRecord 2 from (big_bytes 2 to) from_below) second
 
-pub states_body-is : (rule : StateRule) (at : RecordAt) (extended : Bool) (width : Width) (body : List ℕ) (unit : ReplayUnit) → IsBytes body → states_unit rule at extended width body ≡ Ok unit → IsStatesBody rule at extended width body unit
-unfolding states_unit
-states_body-is rule at extended width body unit fine e =
-    let m = bind_ok (microseconds_at extended body) (λ m. session_peer_at width m.1 >>= λ peer. states_in peer.1 >>= λ s. Ok (session_unit at m.0 peer.0 (State s.0 s.1 rule))) unit e in
-    let p = bind_ok (session_peer_at width m.0.1) (λ peer. states_in peer.1 >>= λ s. Ok (session_unit at m.0.0 peer.0 (State s.0 s.1 rule))) unit m.2 in
-    let s = bind_ok (states_in p.0.1) (λ s. Ok (session_unit at m.0.0 p.0.0 (State s.0 s.1 rule))) unit p.2 in
+-- ---- the ends of a session, and a whole state change
+
+pub record TakesEnds (width : Width) (bytes : List ℕ) (ends : SessionEnds) (rest : List ℕ) : Type 0 where
+  pub session : SessionForm
+  pub takes : TakesSession width bytes session rest
+  pub same : session_ends session ≡ ends
+
+pub ends_take : (width : Width) (bytes : List ℕ) (x : SessionEnds × List ℕ) → IsBytes bytes → session_ends_at width bytes ≡ Ok x → TakesEnds width bytes x.0 x.1
+unfolding session_ends_at
+ends_take width bytes x fine e =
+    let s = bind_ok (session_at width bytes) (λ s. Ok (session_ends s.0, s.1)) x e in
+    subst (λ (y : SessionEnds × List ℕ). TakesEnds width bytes y.0 y.1) (ok_is (session_ends s.0.0, s.0.1) x s.2) (record { session = s.0.0; takes = session_takes width bytes s.0 fine s.1; same = refl })
+
+pub ends_again : (width : Width) (s : SessionForm) (rest : List ℕ) → FitsSession width s → session_ends_at width (session_bytes width s ++ rest) ≡ Ok (session_ends s, rest)
+unfolding session_ends_at
+ends_again width s rest h = rw (session_again width s rest h) refl
+
+pub states_body-is : (extended : Bool) (width : Width) (body : List ℕ) (change : StateChange) → IsBytes body → state_change_in extended width body ≡ Ok change → IsStatesBody extended width body change
+unfolding state_change_in
+states_body-is extended width body change fine e =
+    let m = bind_ok (microseconds_at extended body) (λ m. session_ends_at width m.1 >>= λ ends. states_in ends.1 >>= λ s. Ok (change_with m.0 ends.0 s)) change e in
+    let p = bind_ok (session_ends_at width m.0.1) (λ ends. states_in ends.1 >>= λ s. Ok (change_with m.0.0 ends.0 s)) change m.2 in
+    let s = bind_ok (states_in p.0.1) (λ s. Ok (change_with m.0.0 p.0.0 s)) change p.2 in
     let tm = microseconds_take extended body m.0 fine m.1 in
-    let tp = peer_takes width m.0.1 p.0 tm.fine p.1 in
+    let tp = ends_take width m.0.1 p.0 tm.fine p.1 in
     let ts = states_take p.0.1 s.0 tp.takes.fine s.1 in
     record {
       microseconds = m.0.0;
@@ -212,12 +230,12 @@ states_body-is rule at extended width body unit fine e =
       fits_from = ts.from_below;
       fits_to = ts.to_below;
       spelled = tm.parts ∙ ap (λ (l : List ℕ). microseconds_bytes extended m.0.0 ++ l) (tp.takes.parts ∙ ap (λ (l : List ℕ). session_bytes width tp.session ++ l) ts.parts);
-      said = sym (ap (λ (peer : PeerKey). session_unit at m.0.0 peer (State s.0.0 s.0.1 rule)) tp.same ∙ ok_is (session_unit at m.0.0 p.0.0 (State s.0.0 s.0.1 rule)) unit s.2);
+      said = sym (ap (λ (ends : SessionEnds). change_with m.0.0 ends s.0) tp.same ∙ ok_is (change_with m.0.0 p.0.0 s.0) change s.2);
     }
 
-pub states_body-again : (rule : StateRule) (at : RecordAt) (extended : Bool) (width : Width) (body : List ℕ) (unit : ReplayUnit) → IsStatesBody rule at extended width body unit → states_unit rule at extended width body ≡ Ok unit
-unfolding states_unit
-states_body-again rule at extended width body unit h =
+pub states_body-again : (extended : Bool) (width : Width) (body : List ℕ) (change : StateChange) → IsStatesBody extended width body change → state_change_in extended width body ≡ Ok change
+unfolding state_change_in
+states_body-again extended width body change h =
     let states : List ℕ = big_bytes 2 h.from ++ big_bytes 2 h.to in
     let m : microseconds_at extended body ≡ Ok (h.microseconds, session_bytes width h.session ++ states) = ap (microseconds_at extended) h.spelled ∙ microseconds_again extended h.microseconds (session_bytes width h.session ++ states) h.fits_microseconds in
-    rw (m, peer_again width h.session states h.fits_session, states_again h.from h.to h.fits_from h.fits_to) (ap (λ (u : ReplayUnit). Ok u) (sym h.said))
+    rw (m, ends_again width h.session states h.fits_session, states_again h.from h.to h.fits_from h.fits_to) (ap (λ (c : StateChange). Ok c) (sym h.said))

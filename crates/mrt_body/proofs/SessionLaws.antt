@@ -17,7 +17,7 @@ use Rattle.mrt_body.specs.Bgp4mp.{SessionForm, session_peer, family_at, session_
 use Rattle.mrt_body.proofs.Behind.{Behind, behind_more, behind-le, behind-drop, number_behind, ok_behind}
 use Rattle.mrt_body.proofs.ManyLaws.{done, seen_ok}
 
-addr_behind : (is_ipv6 : Bool) (bytes : List ℕ) (x : PeerAddr × List ℕ) → addr_at is_ipv6 bytes ≡ Ok x → Behind bytes x.1
+pub addr_behind : (is_ipv6 : Bool) (bytes : List ℕ) (x : PeerAddr × List ℕ) → addr_at is_ipv6 bytes ≡ Ok x → Behind bytes x.1
 addr_behind true bytes x e =
     let a = bind_ok (number_at ShortRecord 16 bytes) (λ addr. Ok (V6 addr.0, addr.1)) x e in
     behind_more bytes a.0.1 x.1 (number_behind ShortRecord 16 bytes a.0 a.1) (ok_behind (V6 a.0.0) a.0.1 x a.2)

@@ -28,7 +28,7 @@ step_broken old new known left file offset fault cut file_is cut_is of_cut bytes
         found = ap (found_from old.file old.selection old.index old.dumps) e.2 ∙ ap (λ (f : ℕ). refused_at (at_record f offset 0) fault ∷ []) (sym file_is);
         dumps = ap (dumps_behind_cuts old.file old.selection old.index old.dumps) e.2;
         records = ap (count_by is_whole) e.2;
-        aside = ap (count_by (is_aside old.selection.rules.family)) e.2;
+        aside = ap (count_by (is_aside old.selection)) e.2;
       }),
     )
 
@@ -50,16 +50,16 @@ module _ (old : UnitsState) (file : ℕ) (r : Record) where
 
   -- what the record gives and leaves, if it is one of this file and a reading stands so before it
   abbrev read_in : UnitsState → ℕ → Result (List ReplayUnit) Fault
-  read_in u f = units_in u.selection.rules u.selection.states (at_record f r.offset r.seconds) (is_extended r.kind) u.index held r.body
+  read_in u f = units_in u.selection u.dumps.known (at_record f r.offset r.seconds) (is_extended r.kind) u.index held r.body
 
   abbrev found_then : UnitsState → ℕ → List Found
   found_then u f = as_found (clears_at u.selection (at_record f r.offset r.seconds) u.index u.dumps held r.body) ++ found_units u.selection (at_record f r.offset r.seconds) (read_in u f)
 
   abbrev dumps_then : UnitsState → ℕ → DumpsState
-  dumps_then u f = dumps_behind u.selection (begins u.selection (at_record f r.offset r.seconds) u.index u.dumps held r.body) u.dumps held (read_in u f)
+  dumps_then u f = dumps_behind u.selection (begins u.selection (at_record f r.offset r.seconds) u.index u.dumps held r.body) u.dumps held r.body (read_in u f)
 
   abbrev new_of : Position → List ReplayUnit → UnitsState
-  new_of frames pending = record (mid_of frames) { index = index_with old.index held r.body; dumps = dumps_then old file; pending = pending; aside = old.aside + aside_count held }
+  new_of frames pending = record (mid_of frames) { index = index_with old.index held r.body; dumps = dumps_then old file; pending = pending; aside = old.aside + aside_count old.selection.table_dumps held }
 
   stays : (frames : Position) (pending : List ReplayUnit) (given : Option Damage) (bytes rest : List ℕ) → file ≡ old.file → to_come old.frames bytes ≡ whole ∷ to_come frames rest
       → refusals given ++ as_found pending ≡ found_then old file
@@ -77,14 +77,14 @@ module _ (old : UnitsState) (file : ℕ) (r : Record) where
         dumps = ap (dumps_behind_cuts old.file old.selection old.index old.dumps) cuts_are
             ∙ ap (λ (f : ℕ). dumps_behind_cuts old.file old.selection index (dumps_then old f) others) (sym file_is);
         records = ap (λ (cs : List Cut). old.records + count_by is_whole cs) cuts_are ∙ ap (λ (n : ℕ). old.records + n) (sum_by-cons (λ (c : Cut). cond (is_whole c) 1 0) whole others) ∙ one_more old.records 1 (count_by is_whole others);
-        aside = ap (λ (cs : List Cut). old.aside + count_by (is_aside old.selection.rules.family) cs) cuts_are ∙ ap (λ (n : ℕ). old.aside + n) (sum_by-cons (λ (c : Cut). cond (is_aside old.selection.rules.family c) 1 0) whole others) ∙ one_more old.aside (aside_count held) (count_by (is_aside old.selection.rules.family) others);
+        aside = ap (λ (cs : List Cut). old.aside + count_by (is_aside old.selection) cs) cuts_are ∙ ap (λ (n : ℕ). old.aside + n) (sum_by-cons (λ (c : Cut). cond (is_aside old.selection c) 1 0) whole others) ∙ one_more old.aside (aside_count old.selection.table_dumps held) (count_by (is_aside old.selection) others);
       }
     where
       one_more : (a b c : ℕ) → a + (b + c) ≡ (a + b) + c
       one_more a b c = omega arith
 
-  new_is : (mid new : UnitsState) → mid ≡ mid_of mid.frames → new ≡ record mid { index = index_with mid.index held r.body; dumps = dumps_then mid file; pending = new.pending; aside = mid.aside + aside_count held } → new ≡ new_of mid.frames new.pending
-  new_is mid new m n = n ∙ ap (λ (u : UnitsState). record u { frames = mid.frames; index = index_with u.index held r.body; dumps = dumps_then u file; pending = new.pending; aside = u.aside + aside_count held }) m
+  new_is : (mid new : UnitsState) → mid ≡ mid_of mid.frames → new ≡ record mid { index = index_with mid.index held r.body; dumps = dumps_then mid file; pending = new.pending; aside = mid.aside + aside_count mid.selection.table_dumps held } → new ≡ new_of mid.frames new.pending
+  new_is mid new m n = n ∙ ap (λ (u : UnitsState). record u { frames = mid.frames; index = index_with u.index held r.body; dumps = dumps_then u file; pending = new.pending; aside = u.aside + aside_count u.selection.table_dumps held }) m
 
   found_as : (mid : UnitsState) (l : List Found) → mid ≡ mid_of mid.frames → l ≡ found_then mid file → l ≡ found_then old file
   found_as mid l m h = h ∙ ap (λ (u : UnitsState). found_then u file) m

@@ -4,7 +4,6 @@ use Rattle.std.specs.Prelude.{slice_index_or, if◌then◌else◌}
 use Rattle.std.specs.List.{filter}
 use Rattle.std.proofs.lemmas.List.Elements.{All-filter}
 use Rattle.std.proofs.lemmas.List.Sums.{length-filter, count_by-le-length}
-use Rattle.bgp_update.specs.Families.{Rules}
 use Rattle.peer_units.specs.Choices.{UnitSelection, PeerShare, is_chosen, is_chosen_peer, is_in_share, has_no_peers, has_no_share}
 use Rattle.peer_units.specs.declared.choice.PeerChoice.{PeerChoice}
 use Rattle.mrt_body.specs.declared.rib.ListedEntry.{ListedEntry}

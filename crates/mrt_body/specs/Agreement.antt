@@ -1,20 +1,25 @@
 -- Which bodies agree with the form of their record: those that are its fields, one after the other, each in its range
--- (RFC 6396, 4.3 and 4.4, and 3 for extended timestamps; RFC 8050). And what such a body says.
+-- (RFC 6396, 4.2 to 4.4, and 3 for extended timestamps; RFC 8050). And what such a body says.
 use Rattle.std.specs.Prelude.{◌≡◌, ℕ, ◌^◌, ◌<◌, Bool, List, [], ◌∷◌, ◌++◌, length, Option, Some, None}
 use Rattle.byteorder.specs.Endian.{big_bytes}
-use Rattle.bgp_update.specs.Families.{Rules}
+use Rattle.bgp_update.specs.Families.{Rules, by_entry_width}
 use Rattle.bgp_update.specs.declared.width.Width.{Width}
+use Rattle.bgp_update.specs.declared.width.Width.TheVariants.{Four}
 use Rattle.mrt_body.specs.declared.record_place.RecordAt.{RecordAt}
 use Rattle.mrt_body.specs.declared.body_kind.BodyKind.{BodyKind}
 use Rattle.mrt_body.specs.declared.body_kind.BodyKind.TheVariants as content
-use Rattle.peer_units.specs.declared.state_rule.StateRule.{StateRule}
+use Rattle.peer_units.specs.declared.table_dump_rule.TableDumpRule.{TableDumpRule}
+use Rattle.peer_units.specs.declared.table_dump_rule.TableDumpRule.TheVariants.{Aside, Read}
+use Rattle.peer_units.specs.Choices.{UnitSelection}
 use Rattle.peer_units.specs.declared.unit.PeerKey.{PeerKey}
-use Rattle.peer_units.specs.declared.unit.Payload.TheVariants.{State, Message}
+use Rattle.peer_units.specs.declared.unit.Payload.TheVariants.{Message}
 use Rattle.peer_units.specs.Plain.{Unit as ReplayUnit}
 use Rattle.mrt_body.specs.Indexes.{IndexForm, FitsIndex, index_bytes, peers_of_index}
 use Rattle.mrt_body.specs.RibRecords.{RibForm, FitsRib, rib_bytes}
-use Rattle.mrt_body.specs.Bgp4mp.{SessionForm, FitsSession, session_bytes, session_peer, microseconds_bytes, FitsMicroseconds}
-use Rattle.mrt_body.specs.Units.{rib_units, session_unit}
+use Rattle.mrt_body.specs.Bgp4mp.{SessionForm, FitsSession, session_bytes, session_ends, session_peer, microseconds_bytes, FitsMicroseconds, change_with}
+use Rattle.mrt_body.specs.declared.bgp4mp.StateChange.{StateChange}
+use Rattle.mrt_body.specs.OldEntries.{OldEntryForm, FitsOldEntry, old_entry_bytes}
+use Rattle.mrt_body.specs.Units.{change_units, old_unit, rib_units, session_unit}
 
 -- a PEER_INDEX_TABLE with these peers
 pub record IsIndexBody (body : List ℕ) (peers : List PeerKey) : Type 0 where
@@ -50,11 +55,8 @@ pub record IsMessageBody
   pub spelled : body ≡ microseconds_bytes extended microseconds ++ (session_bytes width session ++ message)
   pub said : unit ≡ session_unit at microseconds (session_peer session) (Message message width add_path rules)
 
--- microseconds where the timestamp is extended, the session, old state 2, and new state 2; the unit has the rule that
--- was asked for
-pub record IsStatesBody
-    (rule : StateRule) (at : RecordAt) (extended : Bool) (width : Width) (body : List ℕ) (unit : ReplayUnit)
-    : Type 0 where
+-- microseconds where the timestamp is extended, the session, old state 2, and new state 2
+pub record IsStatesBody (extended : Bool) (width : Width) (body : List ℕ) (change : StateChange) : Type 0 where
   pub microseconds : ℕ
   pub session : SessionForm
   pub from : ℕ
@@ -65,15 +67,30 @@ pub record IsStatesBody
   pub fits_to : to < 256 ^ 2
   pub spelled : body ≡ microseconds_bytes extended microseconds
       ++ (session_bytes width session ++ (big_bytes 2 from ++ big_bytes 2 to))
-  pub said : unit ≡ session_unit at microseconds (session_peer session) (State from to rule)
+  pub said : change ≡ change_with microseconds (session_ends session) (from, to)
 
--- a record with this content agrees with its form beside the index in force, and these are its units
-abbrev pub Agrees : Rules → StateRule → RecordAt → Bool → Option (List PeerKey) → BodyKind → List ℕ → List ReplayUnit → Type 0
-Agrees rules rule at extended index content.IndexTable body units =
+-- the fields of an entry of TABLE_DUMP
+pub record IsOldBody (rules : Rules) (at : RecordAt) (body : List ℕ) (unit : ReplayUnit) : Type 0 where
+  pub form : OldEntryForm
+  pub fits : FitsOldEntry rules.family form
+  pub spelled : body ≡ old_entry_bytes form
+  pub said : unit ≡ old_unit rules at form
+
+-- one that is left aside has no units, whatever its body is
+abbrev pub AgreesOld : TableDumpRule → Rules → RecordAt → List ℕ → List ReplayUnit → Type 0
+AgreesOld Aside rules at body units = units ≡ []
+AgreesOld Read rules at body units = (unit : ReplayUnit) × IsOldBody rules at body unit × (units ≡ unit ∷ [])
+
+-- a record with this content agrees with its form beside the index in force and the known peers, and these are its
+-- units
+abbrev pub Agrees : UnitSelection → List PeerKey → RecordAt → Bool → Option (List PeerKey) → BodyKind → List ℕ → List ReplayUnit → Type 0
+Agrees selection known at extended index content.IndexTable body units =
     ((peers : List PeerKey) × IsIndexBody body peers) × (units ≡ [])
-Agrees rules rule at extended index (content.Rib add_path) body units = IsRibBodyBeside rules at add_path index body units
-Agrees rules rule at extended index (content.Message width add_path) body units =
-    (unit : ReplayUnit) × IsMessageBody rules at extended width add_path body unit × (units ≡ unit ∷ [])
-Agrees rules rule at extended index (content.States width) body units =
-    (unit : ReplayUnit) × IsStatesBody rule at extended width body unit × (units ≡ unit ∷ [])
-Agrees rules rule at extended index content.Aside body units = units ≡ []
+Agrees selection known at extended index (content.Rib add_path) body units = IsRibBodyBeside (by_entry_width Four selection.rules) at add_path index body units
+Agrees selection known at extended index (content.Message width add_path) body units =
+    (unit : ReplayUnit) × IsMessageBody selection.rules at extended width add_path body unit × (units ≡ unit ∷ [])
+Agrees selection known at extended index (content.States width) body units =
+    (change : StateChange) × IsStatesBody extended width body change × (units ≡ change_units selection known at change)
+Agrees selection known at extended index content.OldEntry body units =
+    AgreesOld selection.table_dumps selection.rules at body units
+Agrees selection known at extended index content.Aside body units = units ≡ []

@@ -8,6 +8,8 @@ use Rattle.bgp_update.specs.declared.width.Width.{Width}
 use Rattle.bgp_update.specs.Segments.{number_len}
 use Rattle.peer_units.specs.declared.unit.PeerAddr.{PeerAddr}
 use Rattle.peer_units.specs.declared.unit.PeerKey.{PeerKey}
+use Rattle.mrt_body.specs.declared.bgp4mp.SessionEnds.{SessionEnds}
+use Rattle.mrt_body.specs.declared.bgp4mp.StateChange.{StateChange}
 use Rattle.mrt_body.specs.Indexes.{addr_bytes, is_ipv6, FitsAddr, asn_bytes, addr_at, asn_at}
 use Rattle.mrt_body.specs.Many.{ended}
 
@@ -51,6 +53,9 @@ FitsMicroseconds false microseconds = microseconds ≡ 0
 abbrev pub session_peer : SessionForm → PeerKey
 session_peer f = record { asn = f.peer_as; addr = f.peer_addr }
 
+abbrev pub session_ends : SessionForm → SessionEnds
+session_ends f = record { peer = session_peer f; local = record { asn = f.local_as; addr = f.local_addr } }
+
 -- ---- reading
 
 -- whether the family is IPv6
@@ -82,6 +87,9 @@ session_at width bytes = do
 unfoldable pub session_peer_at : Width → List ℕ → Reading PeerKey
 session_peer_at width bytes = session_at width bytes >>= λ s. Ok (session_peer s.0, s.1)
 
+unfoldable pub session_ends_at : Width → List ℕ → Reading SessionEnds
+session_ends_at width bytes = session_at width bytes >>= λ s. Ok (session_ends s.0, s.1)
+
 -- old state 2, new state 2, and nothing more
 unfoldable pub states_in : List ℕ → Result (ℕ × ℕ) Fault
 states_in bytes = do
@@ -93,3 +101,15 @@ states_in bytes = do
 abbrev pub microseconds_at : Bool → List ℕ → Reading ℕ
 microseconds_at true body = number_at ShortRecord 4 body
 microseconds_at false body = Ok (0, body)
+
+abbrev pub change_with : ℕ → SessionEnds → ℕ × ℕ → StateChange
+change_with microseconds ends states =
+    record { microseconds = microseconds; ends = ends; from = states.0; to = states.1 }
+
+-- the state change that a body spells, or its first fault
+unfoldable pub state_change_in : Bool → Width → List ℕ → Result StateChange Fault
+state_change_in extended width body = do
+  microseconds ← microseconds_at extended body
+  ends ← session_ends_at width microseconds.1
+  states ← states_in ends.1
+  Ok (change_with microseconds.0 ends.0 states)

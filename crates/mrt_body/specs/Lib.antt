@@ -2,8 +2,11 @@ pub mod Many
 pub mod Indexes
 pub mod RibRecords
 pub mod Bgp4mp
+pub mod OldEntries
 pub mod RibDumps
+pub mod KnownPeers
 pub mod Units
+pub mod Waiting
 pub mod Agreement
 pub mod Refusals
 pub mod Listed

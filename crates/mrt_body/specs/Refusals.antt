@@ -5,30 +5,33 @@ use Rattle.std.specs.List.{flat_map}
 use Rattle.byteorder.specs.Endian.{big_bytes}
 use Rattle.mrt_frame.specs.declared.fault.Fault.{Fault}
 use Rattle.mrt_frame.specs.declared.fault.Fault.TheVariants.{ShortRecord, TrailingBytes, BadFamily, NoPeerIndex, BadPeerIndex, BadPrefix}
-use Rattle.bgp_update.specs.Families.{FamilyOf, Rules}
+use Rattle.bgp_update.specs.Families.{FamilyOf}
 use Rattle.bgp_update.specs.declared.width.Width.{Width}
 use Rattle.bgp_update.specs.Segments.{number_len}
 use Rattle.mrt_body.specs.declared.record_place.RecordAt.{RecordAt}
 use Rattle.mrt_body.specs.declared.body_kind.BodyKind.{BodyKind}
 use Rattle.mrt_body.specs.declared.body_kind.BodyKind.TheVariants as content
-use Rattle.peer_units.specs.declared.state_rule.StateRule.{StateRule}
+use Rattle.peer_units.specs.declared.table_dump_rule.TableDumpRule.{TableDumpRule}
+use Rattle.peer_units.specs.declared.table_dump_rule.TableDumpRule.TheVariants.{Aside, Read}
+use Rattle.peer_units.specs.Choices.{UnitSelection}
 use Rattle.peer_units.specs.declared.unit.PeerKey.{PeerKey}
 use Rattle.peer_units.specs.Plain.{Unit as ReplayUnit}
 use Rattle.mrt_body.specs.Indexes.{asn_bytes}
 use Rattle.mrt_body.specs.RibRecords.{RibForm, FitsRib, entry_bytes}
+use Rattle.mrt_body.specs.OldEntries.{OldPrefix, address_len, is_ipv6_family, old_prefix_bytes}
 use Rattle.mrt_body.specs.Bgp4mp.{microseconds_bytes, FitsMicroseconds}
 use Rattle.mrt_body.specs.Agreement.{Agrees}
 
 -- bytes stand behind a body that agrees
 pub record HasMore
-    (rules : Rules) (rule : StateRule) (at : RecordAt) (extended : Bool) (index : Option (List PeerKey)) (c : BodyKind) (body : List ℕ)
+    (selection : UnitSelection) (known : List PeerKey) (at : RecordAt) (extended : Bool) (index : Option (List PeerKey)) (c : BodyKind) (body : List ℕ)
     : Type 0 where
   pub front : List ℕ
   pub more : List ℕ
   pub units : List ReplayUnit
   pub parts : body ≡ front ++ more
   pub some : 0 < length more
-  pub agrees : Agrees rules rule at extended index c front units
+  pub agrees : Agrees selection known at extended index c front units
 
 -- behind the fields before it stands an address family that is neither IPv4 nor IPv6
 pub record HasOtherFamily (extended : Bool) (width : Width) (body : List ℕ) : Type 0 where
@@ -77,31 +80,50 @@ pub record HasUnknownPeer (family : FamilyOf) (add_path : Bool) (peers : ℕ) (b
       ++ (flat_map (entry_bytes add_path) form.entries
       ++ (big_bytes 2 peer ++ rest))))
 
+-- behind the numbers and an address stands a length that is over the width of the family's addresses, or has more bytes
+-- than the address
+pub record HasBadOldPrefix (family : FamilyOf) (body : List ℕ) : Type 0 where
+  pub prefix : OldPrefix
+  pub rest : List ℕ
+  pub numbers : length prefix.numbers ≡ 4
+  pub octets : length prefix.octets ≡ address_len (is_ipv6_family family)
+  pub bad : (family.width < prefix.len) ⊎ (length prefix.octets < div_ceil prefix.len 8)
+  pub spelled : body ≡ old_prefix_bytes prefix ++ rest
+
+-- what is wrong with a TABLE_DUMP record, other than a field that runs past the body
+abbrev pub HasOldFault : TableDumpRule → UnitSelection → List PeerKey → RecordAt → Bool → Option (List PeerKey) → List ℕ → Fault → Type 0
+HasOldFault Aside selection known at extended index body fault = ⊥
+HasOldFault Read selection known at extended index body fault =
+    ((fault ≡ BadPrefix) × HasBadOldPrefix selection.rules.family body)
+    ⊎ ((fault ≡ TrailingBytes) × HasMore selection known at extended index content.OldEntry body)
+
 -- what is wrong with a RIB record beside this index, other than a field that runs past the body
-abbrev pub HasRibFault : Rules → StateRule → RecordAt → Bool → Bool → Option (List PeerKey) → List ℕ → Fault → Type 0
-HasRibFault rules rule at extended add_path None body fault = fault ≡ NoPeerIndex
-HasRibFault rules rule at extended add_path (Some peers) body fault =
-    ((fault ≡ BadPrefix) × HasBadPrefix rules.family body)
-    ⊎ (((fault ≡ BadPeerIndex) × HasUnknownPeer rules.family add_path (length peers) body)
-    ⊎ ((fault ≡ TrailingBytes) × HasMore rules rule at extended (Some peers) (content.Rib add_path) body))
+abbrev pub HasRibFault : UnitSelection → List PeerKey → RecordAt → Bool → Bool → Option (List PeerKey) → List ℕ → Fault → Type 0
+HasRibFault selection known at extended add_path None body fault = fault ≡ NoPeerIndex
+HasRibFault selection known at extended add_path (Some peers) body fault =
+    ((fault ≡ BadPrefix) × HasBadPrefix selection.rules.family body)
+    ⊎ (((fault ≡ BadPeerIndex) × HasUnknownPeer selection.rules.family add_path (length peers) body)
+    ⊎ ((fault ≡ TrailingBytes) × HasMore selection known at extended (Some peers) (content.Rib add_path) body))
 
 -- what is wrong with a body, other than a field that runs past it
-abbrev pub HasFault : Rules → StateRule → RecordAt → Bool → Option (List PeerKey) → BodyKind → List ℕ → Fault → Type 0
-HasFault rules rule at extended index content.IndexTable body fault =
-    (fault ≡ TrailingBytes) × HasMore rules rule at extended index content.IndexTable body
-HasFault rules rule at extended index (content.Rib add_path) body fault = HasRibFault rules rule at extended add_path index body fault
-HasFault rules rule at extended index (content.Message width add_path) body fault =
+abbrev pub HasFault : UnitSelection → List PeerKey → RecordAt → Bool → Option (List PeerKey) → BodyKind → List ℕ → Fault → Type 0
+HasFault selection known at extended index content.IndexTable body fault =
+    (fault ≡ TrailingBytes) × HasMore selection known at extended index content.IndexTable body
+HasFault selection known at extended index (content.Rib add_path) body fault = HasRibFault selection known at extended add_path index body fault
+HasFault selection known at extended index (content.Message width add_path) body fault =
     (fault ≡ BadFamily) × HasOtherFamily extended width body
-HasFault rules rule at extended index (content.States width) body fault =
+HasFault selection known at extended index (content.States width) body fault =
     ((fault ≡ BadFamily) × HasOtherFamily extended width body)
-    ⊎ ((fault ≡ TrailingBytes) × HasMore rules rule at extended index (content.States width) body)
-HasFault rules rule at extended index content.Aside body fault = ⊥
+    ⊎ ((fault ≡ TrailingBytes) × HasMore selection known at extended index (content.States width) body)
+HasFault selection known at extended index content.OldEntry body fault =
+    HasOldFault selection.table_dumps selection known at extended index body fault
+HasFault selection known at extended index content.Aside body fault = ⊥
 
 -- A body that doesn't agree is refused for what is wrong with it, and where nothing else is, for a field that runs
 -- past it.
-abbrev pub IsRefused : Rules → StateRule → RecordAt → Bool → Option (List PeerKey) → BodyKind → List ℕ → Fault → Type 0
-IsRefused rules rule at extended index c body fault =
-    HasFault rules rule at extended index c body fault
+abbrev pub IsRefused : UnitSelection → List PeerKey → RecordAt → Bool → Option (List PeerKey) → BodyKind → List ℕ → Fault → Type 0
+IsRefused selection known at extended index c body fault =
+    HasFault selection known at extended index c body fault
     ⊎ ((fault ≡ ShortRecord)
-    × ((units : List ReplayUnit) → Agrees rules rule at extended index c body units → ⊥)
-    × ((other : Fault) → HasFault rules rule at extended index c body other → ⊥))
+    × ((units : List ReplayUnit) → Agrees selection known at extended index c body units → ⊥)
+    × ((other : Fault) → HasFault selection known at extended index c body other → ⊥))

@@ -34,13 +34,14 @@ hear peers peer = insert_key peer_cmp peers peer
 -- ---- dumps
 
 -- The peers of the units since the last dump that cleared the tables, in order, and whether a record of the index table
--- in force began a dump.
+-- in force began a dump. And the known peers, in order: those that an index table has named or that a unit was of.
 pub record DumpsState : Type 0 where
   pub heard : List PeerKey
   pub begun : Bool
+  pub known : List PeerKey
 
 abbrev pub no_dumps : DumpsState
-no_dumps = record { heard = []; begun = false }
+no_dumps = record { heard = []; begun = false; known = [] }
 
 abbrev pub replaces : RibRule → Bool
 replaces Add = false
@@ -55,9 +56,15 @@ abbrev pub heard_of : RibRule → List PeerKey → List ReplayUnit → List Peer
 heard_of Add heard units = heard
 heard_of Replace heard units = fold (λ (peers : List PeerKey) (unit : ReplayUnit). hear peers unit.peer) heard units
 
+-- the peers heard after units of these peers
+abbrev pub heard_peers : RibRule → List PeerKey → List PeerKey → List PeerKey
+heard_peers Add heard peers = heard
+heard_peers Replace heard peers = fold hear heard peers
+
 -- after a record that gives these units, and begins a dump or doesn't
 abbrev pub dumps_with : RibRule → Bool → DumpsState → List ReplayUnit → DumpsState
 dumps_with ribs begins dumps units = record {
   heard = heard_of ribs (if begins then [] else dumps.heard) units;
   begun = begins || dumps.begun;
+  known = dumps.known;
 }

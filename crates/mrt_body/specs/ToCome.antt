@@ -21,6 +21,7 @@ use Rattle.peer_units.specs.Plain.{Found}
 use Rattle.peer_units.specs.declared.unit.Found.TheVariants as found
 use Rattle.mrt_body.specs.Pending.{IndexState}
 use Rattle.mrt_body.specs.RibDumps.{DumpsState, no_dumps}
+use Rattle.mrt_body.specs.KnownPeers.{follows_peers}
 use Rattle.mrt_body.specs.Units.{begins, clears_at, dumps_behind, dumps_behind_cuts, found_from, found_in_files, found_units, units_in, index_with, aside_count, all_cuts, is_whole, is_aside}
 
 -- Where a reading stands: the current file and its reader, the index in force, the RIB dumps that came before, the
@@ -97,8 +98,8 @@ pub record Passes
   pub found : found_to_come old contents ≡ taken ++ found_to_come new rest
   pub records : old.records + count_by is_whole (cuts_to_come old contents)
       ≡ new.records + count_by is_whole (cuts_to_come new rest)
-  pub aside : old.aside + count_by (is_aside old.selection.rules.family) (cuts_to_come old contents)
-      ≡ new.aside + count_by (is_aside new.selection.rules.family) (cuts_to_come new rest)
+  pub aside : old.aside + count_by (is_aside old.selection) (cuts_to_come old contents)
+      ≡ new.aside + count_by (is_aside new.selection) (cuts_to_come new rest)
 
 -- Of each file the bytes that it still gives, where they are known. Where those of the current and the later files are
 -- known, this was given of them, and the others are known and to come now.
@@ -136,7 +137,8 @@ answers_left u = most_units_left u + (u.count - u.file)
 
 -- what always holds
 pub record StandsWithin
-    (count file : ℕ) (frames : Position) (max_records records aside : ℕ) (state : ReadState)
+    (count file : ℕ) (frames : Position) (selection : UnitSelection) (follows : Bool)
+    (max_records records aside : ℕ) (state : ReadState)
     : Type 0 where
   pub file_in : file ≤ count
   pub frames_of : frames.file ≡ file
@@ -145,6 +147,7 @@ pub record StandsWithin
   pub limit : max_records ≤ 2 ^ 47
   pub not_ended : state ≢ Ended
   pub reading : state ≡ Reading → frames.state ≡ Reading
+  pub followed : follows ≡ follows_peers selection
 
 abbrev pub index_peers : Option IndexState → Option (List PeerKey)
 index_peers None = None
@@ -184,14 +187,14 @@ pub record TakesRecord
     : Type 0 where
   pub state : new ≡ record old {
     index = index_with old.index content body;
-    dumps = dumps_behind old.selection (begins old.selection at old.index old.dumps content body) old.dumps content
-        (units_in old.selection.rules old.selection.states at extended old.index content body);
+    dumps = dumps_behind old.selection (begins old.selection at old.index old.dumps content body) old.dumps content body
+        (units_in old.selection old.dumps.known at extended old.index content body);
     pending = new.pending;
-    aside = old.aside + aside_count content;
+    aside = old.aside + aside_count old.selection.table_dumps content;
   }
   pub found : refusals refused ++ as_found new.pending
       ≡ as_found (clears_at old.selection at old.index old.dumps content body)
-      ++ found_units old.selection at (units_in old.selection.rules old.selection.states at extended old.index content body)
+      ++ found_units old.selection at (units_in old.selection old.dumps.known at extended old.index content body)
 
 -- more of the current file is to come, where it gave these bytes before and gives those now
 pub record StaysInFile
@@ -209,8 +212,8 @@ pub record StaysInFile
   pub dumps : dumps_here old bytes ≡ dumps_here new rest
   pub records : old.records + count_by is_whole (to_come old.frames bytes)
       ≡ new.records + count_by is_whole (to_come new.frames rest)
-  pub aside : old.aside + count_by (is_aside old.selection.rules.family) (to_come old.frames bytes)
-      ≡ new.aside + count_by (is_aside new.selection.rules.family) (to_come new.frames rest)
+  pub aside : old.aside + count_by (is_aside old.selection) (to_come old.frames bytes)
+      ≡ new.aside + count_by (is_aside new.selection) (to_come new.frames rest)
 
 -- no more of the file is to come
 pub record LeavesFile (old : UnitsState) (bytes : List ℕ) (new : UnitsState) (taken : List Found) : Type 0 where
@@ -218,7 +221,7 @@ pub record LeavesFile (old : UnitsState) (bytes : List ℕ) (new : UnitsState) (
   pub found : found_here old bytes ≡ taken
   pub dumps : dumps_here old bytes ≡ old.dumps
   pub records : count_by is_whole (to_come old.frames bytes) ≡ 0
-  pub aside : count_by (is_aside old.selection.rules.family) (to_come old.frames bytes) ≡ 0
+  pub aside : count_by (is_aside old.selection) (to_come old.frames bytes) ≡ 0
 
 -- where the bytes of the current file are known, this was given of them
 abbrev pub Steps : UnitsState → Option (List ℕ) → UnitsState → Option (List ℕ) → List Found → Type 0

@@ -10,13 +10,15 @@ use Rattle.mrt_frame.specs.declared.cut.Cut.{Cut}
 use Rattle.mrt_frame.specs.declared.cut.Cut.TheVariants.{Whole, Broken}
 use Rattle.mrt_frame.specs.Fields.{◌>>=◌}
 use Rattle.mrt_frame.specs.Cuts.{cuts}
-use Rattle.bgp_update.specs.Families.{FamilyOf, Rules}
+use Rattle.bgp_update.specs.Families.{FamilyOf, Rules, by_entry_width}
 use Rattle.bgp_update.specs.declared.width.Width.{Width}
 use Rattle.bgp_update.specs.declared.width.Width.TheVariants.{Two, Four}
 use Rattle.mrt_body.specs.declared.record_place.RecordAt.{RecordAt}
 use Rattle.mrt_body.specs.declared.body_kind.BodyKind.{BodyKind}
 use Rattle.mrt_body.specs.declared.body_kind.BodyKind.TheVariants as content
 use Rattle.peer_units.specs.declared.state_rule.StateRule.{StateRule}
+use Rattle.peer_units.specs.declared.table_dump_rule.TableDumpRule.{TableDumpRule}
+use Rattle.peer_units.specs.declared.table_dump_rule.TableDumpRule.TheVariants.{Aside, Read}
 use Rattle.peer_units.specs.declared.unit.PeerAddr.TheVariants.{V4}
 use Rattle.peer_units.specs.declared.unit.PeerKey.{PeerKey}
 use Rattle.peer_units.specs.declared.unit.Place.{Place}
@@ -29,7 +31,10 @@ use Rattle.peer_units.specs.declared.unit.Found.TheVariants as found
 use Rattle.peer_units.specs.Choices.{UnitSelection}
 use Rattle.mrt_body.specs.Indexes.{peers_in}
 use Rattle.mrt_body.specs.RibRecords.{RibForm, WrittenEntry, rib_beside, rib_prefix}
-use Rattle.mrt_body.specs.Bgp4mp.{session_peer_at, states_in, microseconds_at}
+use Rattle.mrt_body.specs.OldEntries.{OldEntryForm, old_entry_in, peer_said, prefix_said}
+use Rattle.mrt_body.specs.declared.bgp4mp.StateChange.{StateChange}
+use Rattle.mrt_body.specs.KnownPeers.{known_with, told_peers}
+use Rattle.mrt_body.specs.Bgp4mp.{session_peer_at, microseconds_at, state_change_in}
 use Rattle.peer_units.specs.Selections.{is_selected}
 use Rattle.peer_units.specs.Payloads.{IsSmallUnit}
 use Rattle.mrt_body.specs.RibDumps.{DumpsState, no_dumps, may_begin, dumps_with}
@@ -54,10 +59,15 @@ session_kind subtype =
     (if subtype == 8 then content.Message Two true else
     (if subtype == 9 then content.Message Four true else content.Aside)))))
 
+-- TABLE_DUMP (RFC 6396, 4.2), whose subtype is the number of the family
+abbrev pub old_dump_kind : FamilyOf → ℕ → BodyKind
+old_dump_kind family subtype = if subtype == family.afi then content.OldEntry else content.Aside
+
 unfoldable pub body_kind_of : FamilyOf → ℕ → ℕ → BodyKind
 body_kind_of family kind subtype =
     if kind == 13 then dump_kind family subtype else
-    (if kind == 16 || kind == 17 then session_kind subtype else content.Aside)
+    (if kind == 16 || kind == 17 then session_kind subtype else
+    (if kind == 12 then old_dump_kind family subtype else content.Aside))
 
 -- the type with extended timestamps
 abbrev pub is_extended : ℕ → Bool
@@ -68,6 +78,7 @@ is_index_content content.IndexTable = true
 is_index_content (content.Rib add_path) = false
 is_index_content (content.Message width add_path) = false
 is_index_content (content.States width) = false
+is_index_content content.OldEntry = false
 is_index_content content.Aside = false
 
 -- ---- what one record gives
@@ -122,25 +133,52 @@ message_unit rules at extended width add_path body = do
   peer ← session_peer_at width microseconds.1
   Ok (session_unit at microseconds.0 peer.0 (Message peer.1 width add_path rules))
 
--- with the rule that is asked for
+-- a state change of a peer, with the rule that is asked for
+abbrev pub change_unit : StateRule → RecordAt → StateChange → PeerKey → ReplayUnit
+change_unit rule at change peer = session_unit at change.microseconds peer (State change.from change.to rule)
+
+-- of the recorded peer
 unfoldable pub states_unit : StateRule → RecordAt → Bool → Width → List ℕ → Result ReplayUnit Fault
-states_unit rule at extended width body = do
-  microseconds ← microseconds_at extended body
-  peer ← session_peer_at width microseconds.1
-  states ← states_in peer.1
-  Ok (session_unit at microseconds.0 peer.0 (State states.0 states.1 rule))
+states_unit rule at extended width body =
+    state_change_in extended width body >>= λ change. Ok (change_unit rule at change change.ends.peer)
+
+-- of each peer whose state it is, where these are known
+abbrev pub change_units : UnitSelection → List PeerKey → RecordAt → StateChange → List ReplayUnit
+change_units selection known at change =
+    map (change_unit selection.states at change) (told_peers selection.state_peers known change.ends)
+
+abbrev pub state_units : UnitSelection → List PeerKey → RecordAt → Bool → Width → List ℕ → Result (List ReplayUnit) Fault
+state_units selection known at extended width body =
+    state_change_in extended width body >>= λ change. Ok (change_units selection known at change)
+
+-- the unit of a TABLE_DUMP record, which is an entry without a number; its AS numbers have two bytes
+abbrev pub old_unit : Rules → RecordAt → OldEntryForm → ReplayUnit
+old_unit rules at form = session_unit at 0 (peer_said form.peer)
+    (Entry (by_entry_width Two rules) (record { prefix = prefix_said form.prefix; id = 0 }) form.attributes)
+
+unfoldable pub old_entry_unit : Rules → RecordAt → List ℕ → Result ReplayUnit Fault
+old_entry_unit rules at body = old_entry_in rules.family body >>= λ form. Ok (old_unit rules at form)
 
 abbrev pub alone : Result ReplayUnit Fault → Result (List ReplayUnit) Fault
 alone read = read >>= λ unit. Ok (unit ∷ [])
 
+-- TABLE_DUMP records are read where that is asked for
+abbrev pub old_units : TableDumpRule → Rules → RecordAt → List ℕ → Result (List ReplayUnit) Fault
+old_units Aside rules at body = Ok []
+old_units Read rules at body = alone (old_entry_unit rules at body)
+
 -- The units of a whole record, or its fault; index tables and records aside give none. Messages and entries have the
--- rules, and state changes the rule, that are asked for.
-abbrev pub units_in : Rules → StateRule → RecordAt → Bool → Option (List PeerKey) → BodyKind → List ℕ → Result (List ReplayUnit) Fault
-units_in rules rule at extended index content.IndexTable body = peers_in body >>= λ peers. Ok []
-units_in rules rule at extended index (content.Rib add_path) body = rib_units_in rules at add_path index body
-units_in rules rule at extended index (content.Message width add_path) body = alone (message_unit rules at extended width add_path body)
-units_in rules rule at extended index (content.States width) body = alone (states_unit rule at extended width body)
-units_in rules rule at extended index content.Aside body = Ok []
+-- rules, and state changes the rule, that are asked for. State changes may be those of known peers.
+abbrev pub units_in : UnitSelection → List PeerKey → RecordAt → Bool → Option (List PeerKey) → BodyKind → List ℕ → Result (List ReplayUnit) Fault
+units_in selection known at extended index content.IndexTable body = peers_in body >>= λ peers. Ok []
+units_in selection known at extended index (content.Rib add_path) body =
+    rib_units_in (by_entry_width Four selection.rules) at add_path index body
+units_in selection known at extended index (content.Message width add_path) body =
+    alone (message_unit selection.rules at extended width add_path body)
+units_in selection known at extended index (content.States width) body =
+    state_units selection known at extended width body
+units_in selection known at extended index content.OldEntry body = old_units selection.table_dumps selection.rules at body
+units_in selection known at extended index content.Aside body = Ok []
 
 -- those of them that are selected; a fault stays
 abbrev pub selected_units : UnitSelection → Result (List ReplayUnit) Fault → Result (List ReplayUnit) Fault
@@ -175,6 +213,7 @@ begins selection at index dumps (content.Rib add_path) body =
 begins selection at index dumps content.IndexTable body = false
 begins selection at index dumps (content.Message width add_path) body = false
 begins selection at index dumps (content.States width) body = false
+begins selection at index dumps content.OldEntry body = false
 begins selection at index dumps content.Aside body = false
 
 -- the clears of these peers, if one begins
@@ -191,10 +230,32 @@ abbrev pub units_or_none : Result (List ReplayUnit) Fault → List ReplayUnit
 units_or_none (Ok units) = units
 units_or_none (Err fault) = []
 
--- the dumps behind a record, where it begins one or doesn't; an index table begins none
-abbrev pub dumps_behind : UnitSelection → Bool → DumpsState → BodyKind → Result (List ReplayUnit) Fault → DumpsState
-dumps_behind selection begun dumps content read =
-    let with = dumps_with selection.ribs begun dumps (units_or_none (selected_units selection read)) in
+-- the peers of an index table, if it isn't refused
+abbrev pub peers_or_none : Result (List PeerKey) Fault → List PeerKey
+peers_or_none (Ok peers) = peers
+peers_or_none (Err fault) = []
+
+-- the peers that a record names, whatever is selected: those of an index table, which entries of RIB records are of, and
+-- else those of its units
+abbrev pub peers_named : BodyKind → List ℕ → Result (List ReplayUnit) Fault → List PeerKey
+peers_named content.IndexTable body read = peers_or_none (peers_in body)
+peers_named (content.Rib add_path) body read = []
+peers_named (content.Message width add_path) body read = map (λ u. u.peer) (units_or_none read)
+peers_named (content.States width) body read = map (λ u. u.peer) (units_or_none read)
+peers_named content.OldEntry body read = map (λ u. u.peer) (units_or_none read)
+peers_named content.Aside body read = []
+
+-- the dumps behind a record that begins one or doesn't, and names these peers
+abbrev pub dumps_told : UnitSelection → Bool → DumpsState → List PeerKey → Result (List ReplayUnit) Fault → DumpsState
+dumps_told selection begun dumps named read =
+    record (dumps_with selection.ribs begun dumps (units_or_none (selected_units selection read))) {
+      known = known_with selection.state_peers dumps.known named;
+    }
+
+-- an index table begins none
+abbrev pub dumps_behind : UnitSelection → Bool → DumpsState → BodyKind → List ℕ → Result (List ReplayUnit) Fault → DumpsState
+dumps_behind selection begun dumps content body read =
+    let with = dumps_told selection begun dumps (peers_named content body read) read in
     if is_index_content content then record with { begun = false } else with
 
 -- ---- what a cut gives
@@ -205,7 +266,7 @@ found_at file selection index dumps (Whole r) =
     let at = at_record file r.offset r.seconds in
     let content = body_kind_of selection.rules.family r.kind r.subtype in
     map (λ u. found.Unit u) (clears_at selection at index dumps content r.body)
-    ++ found_units selection at (units_in selection.rules selection.states at (is_extended r.kind) index content r.body)
+    ++ found_units selection at (units_in selection dumps.known at (is_extended r.kind) index content r.body)
 found_at file selection index dumps (Broken offset fault) = refused_at (at_record file offset 0) fault ∷ []
 
 -- the dumps behind a cut
@@ -213,8 +274,8 @@ abbrev pub dumps_after : ℕ → UnitSelection → Option (List PeerKey) → Dum
 dumps_after file selection index dumps (Whole r) =
     let at = at_record file r.offset r.seconds in
     let content = body_kind_of selection.rules.family r.kind r.subtype in
-    dumps_behind selection (begins selection at index dumps content r.body) dumps content
-    (units_in selection.rules selection.states at (is_extended r.kind) index content r.body)
+    dumps_behind selection (begins selection at index dumps content r.body) dumps content r.body
+    (units_in selection dumps.known at (is_extended r.kind) index content r.body)
 dumps_after file selection index dumps (Broken offset fault) = dumps
 
 -- ---- the index in force
@@ -305,20 +366,26 @@ abbrev pub is_whole : Cut → Bool
 is_whole (Whole r) = true
 is_whole (Broken offset fault) = false
 
-abbrev pub is_aside_content : BodyKind → Bool
-is_aside_content content.Aside = true
-is_aside_content content.IndexTable = false
-is_aside_content (content.Rib add_path) = false
-is_aside_content (content.Message width add_path) = false
-is_aside_content (content.States width) = false
+abbrev pub leaves_old_dumps : TableDumpRule → Bool
+leaves_old_dumps Aside = true
+leaves_old_dumps Read = false
+
+abbrev pub is_aside_content : TableDumpRule → BodyKind → Bool
+is_aside_content rule content.Aside = true
+is_aside_content rule content.IndexTable = false
+is_aside_content rule (content.Rib add_path) = false
+is_aside_content rule (content.Message width add_path) = false
+is_aside_content rule (content.States width) = false
+is_aside_content rule content.OldEntry = leaves_old_dumps rule
 
 -- one for a record aside
-abbrev pub aside_count : BodyKind → ℕ
-aside_count content = if is_aside_content content then 1 else 0
+abbrev pub aside_count : TableDumpRule → BodyKind → ℕ
+aside_count rule content = if is_aside_content rule content then 1 else 0
 
-abbrev pub is_aside : FamilyOf → Cut → Bool
-is_aside family (Whole r) = is_aside_content (body_kind_of family r.kind r.subtype)
-is_aside family (Broken offset fault) = false
+abbrev pub is_aside : UnitSelection → Cut → Bool
+is_aside selection (Whole r) =
+    is_aside_content selection.table_dumps (body_kind_of selection.rules.family r.kind r.subtype)
+is_aside selection (Broken offset fault) = false
 
 abbrev pub all_cuts : List (List ℕ) → List Cut
 all_cuts files = flat_map (cuts 0) files
@@ -326,5 +393,5 @@ all_cuts files = flat_map (cuts 0) files
 abbrev pub records_of : List (List ℕ) → ℕ
 records_of files = count_by is_whole (all_cuts files)
 
-abbrev pub aside_of : FamilyOf → List (List ℕ) → ℕ
-aside_of family files = count_by (is_aside family) (all_cuts files)
+abbrev pub aside_of : UnitSelection → List (List ℕ) → ℕ
+aside_of selection files = count_by (is_aside selection) (all_cuts files)

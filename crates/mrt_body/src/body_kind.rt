@@ -17,9 +17,14 @@ pub enum BodyKind {
     Message { width: Width, add_path: bool },
     /// A state change.
     States { width: Width },
+    /// An entry of TABLE_DUMP of the family.
+    OldEntry,
     /// Something that is counted and not read.
     Aside,
 }
+
+/// TABLE_DUMP.
+const TABLE_DUMP: u16 = 12;
 
 /// TABLE_DUMP_V2.
 const TABLE_DUMP_V2: u16 = 13;
@@ -72,6 +77,16 @@ fn session_kind(subtype: u16) -> BodyKind
     }
 }
 
+fn old_dump_kind<F: Unicast>(subtype: u16) -> BodyKind
+    ensures { result ≡ units_spec.old_dump_kind F.family subtype }
+{
+    if subtype == F::encoding().afi {
+        BodyKind::OldEntry
+    } else {
+        BodyKind::Aside
+    }
+}
+
 /// Returns what a record of this type and subtype holds. RIB records of another family are set aside.
 #[tactic(auto, unfolding(crate::specs::Units::body_kind_of))]
 pub fn body_kind_of<F: Unicast>(kind: u16, subtype: u16) -> BodyKind
@@ -80,6 +95,7 @@ pub fn body_kind_of<F: Unicast>(kind: u16, subtype: u16) -> BodyKind
     match kind {
         TABLE_DUMP_V2 => dump_kind::<F>(subtype),
         BGP4MP | BGP4MP_ET => session_kind(subtype),
+        TABLE_DUMP => old_dump_kind::<F>(subtype),
         _ => BodyKind::Aside,
     }
 }

@@ -54,7 +54,7 @@ impl BodyEnd {
     }
 }
 
-/// The unit of a BGP4MP record; or one that clears a table, without bytes.
+/// The unit of a BGP4MP or TABLE_DUMP record; or one that clears a table, without bytes.
 pub(crate) type BodyUnit<F> = Unit<BodyEnd, Prefix<F>, Rules<F>>;
 
 /// Returns the bytes of a payload: none of a state change or a clear.
@@ -85,6 +85,7 @@ pub(crate) fn lent<F: Unicast>(unit: &BodyUnit<F>) -> UnitRef<'_, F>
 pub(crate) fn block_of<F: Unicast>(unit: BodyUnit<F>) -> Option<Vec<u8>> {
     match unit.payload {
         Payload::Message { bytes, .. } => Some(bytes.into_block()),
+        Payload::Entry { attrs, .. } => Some(attrs.into_block()),
         _ => None,
     }
 }

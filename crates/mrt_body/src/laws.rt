@@ -3,11 +3,9 @@
 ghost use Rattle.std.specs.Prelude.{◌≡◌, ◌↔◌, ℕ, Bool, List, Option, Ok, Err, ◌++◌, Some, length, map, true};
 ghost use Rattle.mrt_frame.specs.Bytes.{AreBytes};
 ghost use Rattle.mrt_frame.specs.declared.fault.Fault.{Fault};
-ghost use Rattle.bgp_update.specs.Families.{Rules};
 ghost use Rattle.mrt_body.specs.declared.record_place.RecordAt.{RecordAt};
 ghost use Rattle.mrt_body.specs.declared.body_kind.BodyKind.{BodyKind};
 ghost use Rattle.peer_units.specs.Plain.{Unit as ReplayUnit, Found};
-ghost use Rattle.peer_units.specs.declared.state_rule.StateRule.{StateRule};
 ghost use Rattle.peer_units.specs.declared.unit.PeerKey.{PeerKey};
 ghost use Rattle.mrt_body.specs.Indexes.{peers_in};
 ghost use Rattle.mrt_body.specs.Units.{units_in, aside_of, found_in, records_of, units_of};
@@ -24,22 +22,22 @@ ghost use Rattle.peer_units.specs.declared.rib_rule.RibRule.TheVariants.{Add};
 
 use mrt_frame::Source;
 
-/// A record yields units exactly if its body agrees with its form (RFC 6396, 4.3 and 4.4; RFC 8050),
+/// A record yields units exactly if its body agrees with its form (RFC 6396, 4.2 to 4.4; RFC 8050),
 /// and only these units: the bytes can be read in no other way. Any other record is refused for the
 /// first of its fields that is broken.
 pub fn bodies_agree_with_their_forms()
     ensures peers { (body : List ℕ) (peers : List PeerKey) → AreBytes body →
         (peers_in body ≡ Ok peers) ↔ IsIndexBody body peers }
-    ensures units { (rules : Rules) (rule : StateRule) (at : RecordAt) (extended : Bool) (index : Option (List PeerKey))
+    ensures units { (selection : UnitSelection) (known : List PeerKey) (at : RecordAt) (extended : Bool) (index : Option (List PeerKey))
         (content : BodyKind) (body : List ℕ) (units : List ReplayUnit) → AreBytes body →
-        (units_in rules rule at extended index content body ≡ Ok units) ↔ Agrees rules rule at extended index content body units }
-    ensures only { (rules : Rules) (rule : StateRule) (at : RecordAt) (extended : Bool) (index : Option (List PeerKey))
+        (units_in selection known at extended index content body ≡ Ok units) ↔ Agrees selection known at extended index content body units }
+    ensures only { (selection : UnitSelection) (known : List PeerKey) (at : RecordAt) (extended : Bool) (index : Option (List PeerKey))
         (content : BodyKind) (body : List ℕ) (units others : List ReplayUnit) →
-        Agrees rules rule at extended index content body units →
-        Agrees rules rule at extended index content body others → units ≡ others }
-    ensures refused { (rules : Rules) (rule : StateRule) (at : RecordAt) (extended : Bool) (index : Option (List PeerKey))
+        Agrees selection known at extended index content body units →
+        Agrees selection known at extended index content body others → units ≡ others }
+    ensures refused { (selection : UnitSelection) (known : List PeerKey) (at : RecordAt) (extended : Bool) (index : Option (List PeerKey))
         (content : BodyKind) (body : List ℕ) (fault : Fault) → AreBytes body →
-        (units_in rules rule at extended index content body ≡ Err fault) ↔ IsRefused rules rule at extended index content body fault }
+        (units_in selection known at extended index content body ≡ Err fault) ↔ IsRefused selection known at extended index content body fault }
 {}
 
 /// What calls of `Units::next` returned joins, in order. What was returned from `Units::new` on is a front
@@ -59,7 +57,7 @@ pub fn readings_give_all_found()
         (contents : List (List ℕ)) (left : List (Option (List ℕ))) (given : List Found) →
         TakesFound (fresh_units count max_records selection) (map (λ bytes. Some bytes) contents) last left given →
         HasEnded last → length left ≡ last.count →
-        (given ≡ found_in selection contents) × (last.records ≡ records_of contents) × (last.aside ≡ aside_of selection.rules.family contents) }
+        (given ≡ found_in selection contents) × (last.records ≡ records_of contents) × (last.aside ≡ aside_of selection contents) }
     ensures failed { (count max_records file : ℕ) (selection : UnitSelection) (last stopped : UnitsState)
         (contents : List (List ℕ)) (left after : List (Option (List ℕ))) (given : List Found) →
         TakesFound (fresh_units count max_records selection) (map (λ bytes. Some bytes) contents) last left given →
@@ -73,7 +71,7 @@ pub fn units_have_their_rule()
         AreByRule selection.states (units_of selection files) }
 {}
 
-/// Each message and each entry has the rules that the selection asks for.
+/// Each message and each entry has the rules that the selection asks for, an entry with the width of its AS numbers.
 pub fn units_have_their_rules()
     ensures { (selection : UnitSelection) (files : List (List ℕ)) →
         AreReadBy selection.rules (units_of selection files) }

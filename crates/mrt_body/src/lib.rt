@@ -30,8 +30,10 @@ mod bgp4mp;
 mod body_kind;
 mod body_unit;
 mod entries;
+mod known_peers;
 mod laws;
 mod lent_units;
+mod old_entry;
 mod payload;
 mod peer_index;
 mod record_place;
@@ -48,5 +50,5 @@ pub use laws::{
     units_have_their_rule, units_have_their_rules,
 };
 pub use lent_units::{Lent, LentEntries, LentUnits};
-pub use remarks::{Marked, Remarks};
+pub use remarks::{Marked, RecordType, Remarks, Unread};
 pub use units::Units;

@@ -6,13 +6,13 @@ ghost use Rattle.mrt_frame.specs.Fields.{Reads};
 ghost use Rattle.mrt_body.specs.Units as units_spec;
 ghost use Rattle.peer_units.specs.Payloads.{payload_bytes};
 
-use crate::bgp4mp::{microseconds_at, session_peer_at, states_in};
+use crate::bgp4mp::{StateChange, microseconds_at, session_peer_at};
 use crate::body_unit::{BodyEnd, BodyUnit};
 use crate::record_place::RecordAt;
 use bgp_prefix::Sequence;
 use bgp_update::{Rules, Unicast, Width};
 use mrt_frame::Fault;
-use peer_units::{Payload, StateRule, Unit};
+use peer_units::{Payload, PeerKey, StateRule, Unit};
 
 /// Returns the unit of a message, whose bytes are the end of the body.
 #[tactic(auto, unfolding(crate::specs::Units::message_unit))]
@@ -45,25 +45,25 @@ pub(crate) fn message_unit<F: Unicast>(
     })
 }
 
-/// Returns the unit of a state change, which is taken by this rule.
-#[tactic(auto, unfolding(crate::specs::Units::states_unit))]
-pub(crate) fn states_unit<F: Unicast>(
+/// Returns the unit of a state change of this peer, which is taken by this rule.
+#[inline(always)]
+pub(crate) fn change_unit<F: Unicast>(
     rule: StateRule,
     at: RecordAt,
-    is_extended: bool,
-    width: Width,
-    body: &[u8],
-) -> Result<BodyUnit<F>, Fault>
-    ensures reads { Reads (λ unit. unit) result (units_spec.states_unit rule at is_extended width body.now) }
-    ensures small { IfOk result (λ unit. payload_bytes unit.payload ≡ []) }
+    change: &StateChange,
+    peer: PeerKey,
+) -> BodyUnit<F>
+    ensures unit { result ≡ units_spec.change_unit rule at change.now peer }
+    ensures small { payload_bytes result.payload ≡ [] }
 {
-    let (microseconds, rest) = microseconds_at(body, is_extended)?;
-    let (peer, rest) = session_peer_at(rest, width)?;
-    let (from, to) = states_in(rest)?;
-    Ok(Unit {
+    Unit {
         place: at.place(None),
-        time: at.time(microseconds),
+        time: at.time(change.microseconds),
         peer,
-        payload: Payload::State { from, to, rule },
-    })
+        payload: Payload::State {
+            from: change.from,
+            to: change.to,
+            rule,
+        },
+    }
 }

@@ -2,11 +2,19 @@
 //! them is safe.
 
 use crate::rib::ListedEntry;
-use bgp_update::Unicast;
 use std::alloc::Global;
 
 /// The most files that are told by their numbers.
 const MOST_FILES: usize = 5;
+
+/// The most types of records that are told.
+const MOST_TYPES: usize = 5;
+
+/// TABLE_DUMP.
+const TABLE_DUMP: u16 = 12;
+
+/// TABLE_DUMP_V2.
+const TABLE_DUMP_V2: u16 = 13;
 
 /// How many records are alike, and in which files they are.
 #[derive(Clone, Copy, Debug, PartialEq, Eq)]
@@ -56,13 +64,73 @@ impl Marked {
     }
 }
 
+/// A type and a subtype of records.
+#[derive(Clone, Copy, Debug, PartialEq, Eq)]
+pub struct RecordType {
+    pub kind: u16,
+    pub subtype: u16,
+}
+
+/// Records of types that aren't read, in which files they are, and of which types they are.
+#[derive(Clone, Copy, Debug, PartialEq, Eq)]
+pub struct Unread {
+    records: Marked,
+    types: [Option<RecordType>; MOST_TYPES],
+    has_others: bool,
+}
+
+impl Unread {
+    fn new() -> Unread {
+        Unread {
+            records: Marked::new(),
+            types: [None; MOST_TYPES],
+            has_others: false,
+        }
+    }
+
+    /// How many records there are, and in which files they are.
+    pub fn records(&self) -> &Marked {
+        &self.records
+    }
+
+    /// The first five types, or all if there are fewer.
+    pub fn first_types(&self) -> &[Option<RecordType>] {
+        &self.types
+    }
+
+    /// Whether there are further types.
+    pub fn has_others(&self) -> bool {
+        self.has_others
+    }
+
+    /// Counts a record of this type in this file.
+    fn add(&mut self, file: usize, record_type: RecordType) {
+        self.records.add(file);
+        for place in &mut self.types {
+            match place {
+                Some(named) if *named != record_type => {}
+                Some(_) => return,
+                None => {
+                    *place = Some(record_type);
+                    return;
+                }
+            }
+        }
+        self.has_others = true;
+    }
+}
+
 /// What is remarkable about the records of files.
 #[derive(Clone, Copy, Debug, PartialEq, Eq)]
 pub struct Remarks {
-    /// RIB records of unicast routes of the family that were read (RFC 6396, 4.3.2; RFC 8050, 4).
+    /// RIB records of unicast routes of the family that were read (RFC 6396, 4.2 and 4.3.2; RFC 8050, 4).
     pub ribs: u64,
     /// RIB records of unicast routes of the other family, which are set aside.
     pub other_family: Marked,
+    /// TABLE_DUMP records of the family that are set aside.
+    pub table_dumps: Marked,
+    /// Records that hold nothing which is read for either family.
+    pub unread: Unread,
     /// RIB dumps: RIB records that are the first ones behind an index table, and aren't past the last second.
     pub dumps: Marked,
     /// RIB records without path identifiers of which two entries are one peer's.
@@ -85,6 +153,8 @@ impl Remarker {
             remarks: Remarks {
                 ribs: 0,
                 other_family: Marked::new(),
+                table_dumps: Marked::new(),
+                unread: Unread::new(),
                 dumps: Marked::new(),
                 repeats: Marked::new(),
             },
@@ -103,13 +173,27 @@ impl Remarker {
         self.is_dump_begun = false;
     }
 
-    /// Takes note of a record of this type and subtype.
-    pub(crate) fn see_record<F: Unicast>(&mut self, file: usize, kind: u16, subtype: u16) {
-        let is_unicast = kind == 13 && matches!(subtype, 2 | 4 | 8 | 10);
-        let encoding = F::encoding();
-        if is_unicast && subtype != encoding.rib && subtype != encoding.rib_add_path {
-            self.remarks.other_family.add(file);
+    /// Takes note of a record that is set aside and is of a type that is none of the family's.
+    #[cold]
+    #[inline(never)]
+    pub(crate) fn see_aside(&mut self, file: usize, record_type: RecordType) {
+        match (record_type.kind, record_type.subtype) {
+            (TABLE_DUMP, 1 | 2) | (TABLE_DUMP_V2, 2 | 4 | 8 | 10) => {
+                self.remarks.other_family.add(file);
+            }
+            _ => self.remarks.unread.add(file, record_type),
         }
+    }
+
+    /// Takes note of a TABLE_DUMP record of the family that is set aside.
+    #[cold]
+    pub(crate) fn see_table_dump_aside(&mut self, file: usize) {
+        self.remarks.table_dumps.add(file);
+    }
+
+    /// Takes note of a TABLE_DUMP record of the family that is read.
+    pub(crate) fn see_table_dump(&mut self) {
+        self.remarks.ribs = self.remarks.ribs.saturating_add(1);
     }
 
     /// Takes note of a RIB record with these entries, against an index table of this many peers, and whether it is past

@@ -1,22 +1,26 @@
 //! The RIB dumps that replace what came before them.
 
-ghost use Rattle.std.specs.Prelude.{◌≡◌, [], OnOk, false, true};
-ghost use Rattle.mrt_body.specs.RibDumps.{hear, may_begin, no_dumps};
+ghost use Rattle.std.specs.Prelude.{◌≡◌, [], IfOk, OnOk, false, true};
+ghost use Rattle.std.specs.List.{fold};
+ghost use Rattle.mrt_body.specs.KnownPeers.{known_with};
+ghost use Rattle.mrt_body.specs.RibDumps.{hear, heard_peers, may_begin, no_dumps};
 
 use bgp_prefix::Memory;
 use bgp_update::Unicast;
-use peer_units::{PeerKey, RibRule, Selection};
+use peer_units::{PeerKey, RibRule, Selection, StatePeers};
 use std::alloc::Global;
-use std::collections::BTreeSet;
+use std::collections::{BTreeSet, VecDeque};
 use std::marker::Model;
 
-/// Which peers' tables the next RIB dump clears.
+/// Which peers' tables the next RIB dump clears, and which peers are known.
 #[derive(Drop)]
 pub(crate) struct RibDumps {
     /// The peers of the units since the last dump that cleared the tables. Of other peers there is nothing to clear.
     heard: BTreeSet<PeerKey>,
     /// Whether a record of the index table in force began a dump.
     is_begun: bool,
+    /// The peers that an index table has named or that a unit was of, where state changes may be theirs.
+    known: BTreeSet<PeerKey>,
     alloc: Global,
 }
 
@@ -25,7 +29,37 @@ impl Model for RibDumps {
 
     ghost Value = { DumpsState };
 
-    ghost view = { λ d. record { heard = d.heard.keys; begun = d.is_begun } };
+    ghost view = { λ d. record { heard = d.heard.keys; begun = d.is_begun; known = d.known.keys } };
+}
+
+/// Inserts a peer.
+fn insert(set: &mut BTreeSet<PeerKey>, peer: PeerKey) -> Result<(), Memory>
+    ensures { OnOk result (set.new.keys ≡ hear set.old.keys peer) }
+{
+    set.insert(peer)?;
+    Ok(())
+}
+
+/// Inserts these peers.
+fn insert_all(set: &mut BTreeSet<PeerKey>, peers: &[PeerKey]) -> Result<(), Memory>
+    ensures { OnOk result (set.new.keys ≡ fold hear set.old.keys peers.now) }
+{
+    for peer in peers {
+        insert(set, *peer)?;
+    }
+    Ok(())
+}
+
+/// Returns these peers as a list, in their order.
+fn listed(alloc: Global, peers: BTreeSet<PeerKey>) -> Result<VecDeque<PeerKey>, Memory>
+    ensures { IfOk result (λ list. list.items ≡ peers.keys) }
+{
+    let mut left = peers;
+    let mut list = VecDeque::new(alloc);
+    while let Some(peer) = left.pop_first() {
+        list.push_back(peer)?;
+    }
+    Ok(list)
 }
 
 impl RibDumps {
@@ -36,6 +70,7 @@ impl RibDumps {
         RibDumps {
             heard: BTreeSet::new(alloc),
             is_begun: false,
+            known: BTreeSet::new(alloc),
             alloc,
         }
     }
@@ -60,12 +95,13 @@ impl RibDumps {
 
     /// Begins a dump, and returns the peers whose tables it clears.
     #[inline(never)]
-    pub(crate) fn begin(&mut self) -> BTreeSet<PeerKey>
-        ensures begun { self.new ≡ record { heard = []; begun = true } }
-        ensures cleared { result.keys ≡ self.old.heard }
+    pub(crate) fn begin(&mut self) -> Result<VecDeque<PeerKey>, Memory>
+        ensures begun { OnOk result (self.new ≡ record self.old { heard = []; begun = true }) }
+        ensures cleared { IfOk result (λ peers. peers.items ≡ self.old.heard) }
     {
         self.is_begun = true;
-        std::mem::replace(&mut self.heard, BTreeSet::new(self.alloc))
+        let heard = std::mem::replace(&mut self.heard, BTreeSet::new(self.alloc));
+        listed(self.alloc, heard)
     }
 
     /// Takes note of a unit of this peer.
@@ -73,7 +109,35 @@ impl RibDumps {
     pub(crate) fn hear(&mut self, peer: PeerKey) -> Result<(), Memory>
         ensures { OnOk result (self.new ≡ record self.old { heard = hear self.old.heard peer }) }
     {
-        self.heard.insert(peer)?;
-        Ok(())
+        insert(&mut self.heard, peer)
+    }
+
+    /// Takes note of units of these peers.
+    #[inline(never)]
+    pub(crate) fn hear_all(&mut self, rule: RibRule, peers: &[PeerKey]) -> Result<(), Memory>
+        ensures { OnOk result (self.new ≡ record self.old { heard = heard_peers rule self.old.heard peers.now }) }
+    {
+        match rule {
+            RibRule::Add => Ok(()),
+            RibRule::Replace => insert_all(&mut self.heard, peers),
+        }
+    }
+
+    /// The known peers.
+    pub(crate) fn known(&self) -> &BTreeSet<PeerKey>
+        ensures { result.now.keys ≡ self.now.known }
+    {
+        &self.known
+    }
+
+    /// Takes note of peers that a record names, where state changes may be those of known peers.
+    #[inline(never)]
+    pub(crate) fn know(&mut self, rule: StatePeers, named: &[PeerKey]) -> Result<(), Memory>
+        ensures { OnOk result (self.new ≡ record self.old { known = known_with rule self.old.known named.now }) }
+    {
+        match rule {
+            StatePeers::Recorded => Ok(()),
+            StatePeers::Local | StatePeers::ByAs => insert_all(&mut self.known, named),
+        }
     }
 }

@@ -3,6 +3,8 @@
 ghost use Rattle.std.specs.Prelude.{◌≡◌, ◌≤◌, [], drop, length, false, ◌↔◌, Some, OnErr, OnOk, MatchOption};
 ghost use Rattle.bgp_update.specs.Results.{Gives};
 ghost use Rattle.mrt_frame.specs.Cuts.{body_limit};
+ghost use Rattle.bgp_update.specs.Families.{by_entry_width};
+ghost use Rattle.bgp_update.specs.declared.width.Width.TheVariants.{Four};
 ghost use Rattle.mrt_body.specs.Units.{rib_units_in, selected_units};
 ghost use Rattle.mrt_body.specs.Pending.{without_pending};
 ghost use Rattle.mrt_body.specs.RibDumps.{heard_of};
@@ -14,7 +16,7 @@ use crate::record_place::RecordAt;
 use crate::rib::ListedEntry;
 use crate::rib_dumps::RibDumps;
 use bgp_prefix::{Memory, Prefix, Sequence};
-use bgp_update::{AttrError, Rules, Unicast};
+use bgp_update::{AttrError, Rules, Unicast, Width};
 use peer_units::{PeerKey, Selection};
 use std::alloc::Global;
 use std::marker::Model;
@@ -60,13 +62,13 @@ impl<F: Unicast> Index<F> {
     ) -> Result<(), AttrError>
         requires { length body ≤ body_limit }
         ensures units { Gives (λ _. self.new.pending) result
-            (selected_units selection.now (rib_units_in selection.now.rules at add_path (Some self.old.peers) body)) }
+            (selected_units selection.now (rib_units_in (by_entry_width Four selection.now.rules) at add_path (Some self.old.peers) body)) }
         ensures peers { self.new.peers ≡ self.old.peers }
         ensures few { length self.new.pending ≤ 65535 }
         ensures none { OnErr result (self.new.pending ≡ []) }
     {
         self.last = None;
-        let rules = selection.rules();
+        let rules = selection.rules().with_entry_width(Width::Four);
         let peers = self.peers.as_slice();
         let record = RibRecord::read(at, rules, body, add_path, peers, &mut self.list)?;
         record.select(selection, self.peers.as_slice(), &mut self.list);

@@ -12,20 +12,21 @@ ghost use Rattle.peer_units.specs.Payloads.{IsSmallUnit};
 ghost use Rattle.mrt_frame.specs.Given.{Told};
 ghost use Rattle.mrt_body.specs.Tellings.{AllTold, StopsTold, AllStopsTold};
 ghost use Rattle.mrt_body.specs.ToCome.{CutsOne, TakesFound, UnitsState, GivesPending, Steps, refusals, cuts_to_come, found_to_come, fresh_units, index_peers, index_pending};
+ghost use Rattle.mrt_body.specs.KnownPeers.{follows_peers};
 ghost use Rattle.mrt_body.specs.Readings.{Gives, Ends, Stops, Stays, IsBounded, GivesCut, Lowers, StopsInFile, GoesOn, WantsMemory, StaysHere};
 
 use crate::body_kind::{body_kind_of, is_extended};
 use crate::body_unit::lent;
 use crate::lent_units::{Lent, LentUnits};
 use crate::record_place::RecordAt;
-use crate::remarks::{Remarker, Remarks};
+use crate::remarks::{RecordType, Remarker, Remarks};
 use crate::rib_dumps::RibDumps;
 use crate::rib_reader::Index;
 use crate::waiting::Waiting;
 use bgp_prefix::Memory;
 use bgp_update::Unicast;
 use mrt_frame::{Cut, FrameReader, ReadState, ReplayError, Source};
-use peer_units::{Damage, DecodedEvents, Found, FoundOf, Selection, UnitOf};
+use peer_units::{Damage, DecodedEvents, Found, FoundOf, RibRule, Selection, StatePeers, UnitOf};
 use record::refused;
 use std::alloc::Global;
 use std::marker::Model;
@@ -38,6 +39,8 @@ pub struct Units<F: Unicast = u32> {
     frames: FrameReader,
     index: Option<Index<F>>,
     dumps: RibDumps,
+    /// Whether something is noted of the peers of units.
+    follows_peers: bool,
     /// What is to be returned before the entries of the record cut last.
     waiting: Waiting<F>,
     /// The memory of a record that was cut before, into which the next one is read.
@@ -72,7 +75,8 @@ impl<F: Unicast> Model for Units<F> {
       state = u.state;
     } };
 
-    ghost invariant = { λ u. StandsWithin u.count u.file u.frames u.max_records u.records u.aside u.state };
+    ghost invariant = { λ u. StandsWithin u.count u.file u.frames u.selection u.follows_peers
+        u.max_records u.records u.aside u.state };
 }
 
 impl<F: Unicast> Units<F> {
@@ -91,6 +95,7 @@ impl<F: Unicast> Units<F> {
             frames: FrameReader::new(0),
             index: None,
             dumps: RibDumps::new(alloc),
+            follows_peers: follows_peers(&selection),
             waiting: Waiting::new(alloc),
             spare: None,
             selection,
@@ -342,8 +347,6 @@ impl<F: Unicast> Units<F> {
                     return Err(ReplayError::Records);
                 }
                 self.records += 1;
-                self.remarker
-                    .see_record::<F>(self.file, record.kind, record.subtype);
                 Ok(Some(Cut::Whole(record)))
             }
             Ok(end) => {
@@ -400,11 +403,30 @@ impl<F: Unicast> Units<F> {
                     offset: record.offset,
                     seconds: record.seconds,
                 };
+                let record_type = RecordType {
+                    kind: record.kind,
+                    subtype: record.subtype,
+                };
                 let content = body_kind_of::<F>(record.kind, record.subtype);
-                self.take(alloc, at, is_extended(record.kind), content, record.body)
+                self.take(
+                    alloc,
+                    at,
+                    record_type,
+                    is_extended(record.kind),
+                    content,
+                    record.body,
+                )
             }
         }
     }
+}
+
+/// Whether something is to be noted of the peers of units: where RIB dumps clear their tables, or state changes may be
+/// theirs.
+fn follows_peers<F: Unicast>(selection: &Selection<F>) -> bool
+    ensures { result ≡ follows_peers selection.now }
+{
+    selection.ribs() == RibRule::Replace || selection.state_peers() != StatePeers::Recorded
 }
 
 /// Leaves so many of the units that wait behind, or all if there are fewer. Keeps the memory of their record. Returns

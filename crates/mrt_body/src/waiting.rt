@@ -1,64 +1,81 @@
 //! The units that are still to be returned, beside the entries of a RIB record.
 
 ghost use Rattle.std.specs.Prelude.{◌≡◌, ◌∷◌, ◌++◌, ◌↔◌, [], IfSome, None, drop, false, map, option_to_list};
-ghost use Rattle.mrt_body.specs.Units.{clear_unit};
+ghost use Rattle.mrt_body.specs.Waiting as waiting_spec;
 
+use crate::bgp4mp::StateChange;
 use crate::body_unit::{BodyUnit, block_of};
+use crate::payload::change_unit;
 use crate::record_place::RecordAt;
 use bgp_update::Unicast;
-use peer_units::{Payload, PeerKey, Unit};
+use peer_units::{Payload, PeerKey, StateRule, Unit};
 use std::alloc::Global;
-use std::collections::BTreeSet;
+use std::collections::VecDeque;
 use std::marker::Model;
 
-/// The unit of the BGP4MP record that was cut last, or the clears of the RIB dump that began last, as far as they are
-/// still to be returned.
+/// What one record says of several peers alike.
+#[derive(Clone, Copy)]
+pub(crate) enum Told {
+    /// A RIB dump begins that clears their tables.
+    Clear,
+    /// A state change, and the rule by which it is taken.
+    Change(StateChange, StateRule),
+}
+
+impl Told {
+    /// Returns the unit of one of them, by a record at this place.
+    fn unit<F: Unicast>(&self, at: &RecordAt, peer: PeerKey) -> BodyUnit<F>
+        ensures { result ≡ waiting_spec.told_unit at.now self.now peer }
+    {
+        match self {
+            Told::Clear => Unit {
+                place: at.place(None),
+                time: at.time(0),
+                peer,
+                payload: Payload::Clear,
+            },
+            Told::Change(change, rule) => change_unit(*rule, *at, change, peer),
+        }
+    }
+}
+
+/// The unit of the BGP4MP or TABLE_DUMP record that was cut last, or what it says of several peers, or the clears of
+/// the RIB dump that began last, as far as they are still to be returned.
 #[derive(Drop)]
 pub(crate) struct Waiting<F: Unicast> {
     first: Option<BodyUnit<F>>,
-    /// The peers whose tables are to be cleared behind the first unit, by the dump that begins there.
-    cleared: BTreeSet<PeerKey>,
+    /// The peers of the units behind the first one.
+    others: VecDeque<PeerKey>,
+    /// What is said of them, and where.
+    told: Told,
     at: RecordAt,
 }
 
 impl<F: Unicast> Model for Waiting<F> {
     ghost use Rattle.std.specs.Prelude.{◌≡◌, ◌++◌, List, [], None, map, option_to_list};
     ghost use Rattle.peer_units.specs.Plain.{Unit as ReplayUnit};
-    ghost use Rattle.mrt_body.specs.Units.{clear_unit};
+    ghost use Rattle.mrt_body.specs.Waiting.{told_unit};
 
     ghost Value = { List ReplayUnit };
 
-    ghost view = { λ w. option_to_list w.first ++ map (clear_unit w.at) w.cleared.keys };
+    ghost view = { λ w. option_to_list w.first ++ map (told_unit w.at w.told) w.others.items };
 
-    ghost invariant = { λ w. w.first ≡ None → w.cleared.keys ≡ [] };
+    ghost invariant = { λ w. w.first ≡ None → w.others.items ≡ [] };
 }
 
-/// Takes out the clear of the first of these peers, by a record at this place.
-#[inline(always)]
-fn next_clear<F: Unicast>(at: &RecordAt, cleared: &mut BTreeSet<PeerKey>) -> Option<BodyUnit<F>>
-    ensures gives { map (clear_unit at.now) cleared.old.keys
-        ≡ option_to_list result ++ map (clear_unit at.now) cleared.new.keys }
-    ensures none { result ≡ None → cleared.new.keys ≡ [] }
-{
-    if cleared.is_empty() {
-        return None;
-    }
-    pop_clear(at, cleared)
-}
-
+/// Takes out the unit of the first of these peers.
 #[inline(never)]
-fn pop_clear<F: Unicast>(at: &RecordAt, cleared: &mut BTreeSet<PeerKey>) -> Option<BodyUnit<F>>
-    ensures gives { map (clear_unit at.now) cleared.old.keys
-        ≡ option_to_list result ++ map (clear_unit at.now) cleared.new.keys }
-    ensures none { result ≡ None → cleared.new.keys ≡ [] }
+fn next_told<F: Unicast>(
+    at: &RecordAt,
+    told: &Told,
+    peers: &mut VecDeque<PeerKey>,
+) -> Option<BodyUnit<F>>
+    ensures gives { map (waiting_spec.told_unit at.now told.now) peers.old.items
+        ≡ option_to_list result ++ map (waiting_spec.told_unit at.now told.now) peers.new.items }
+    ensures none { result ≡ None → peers.new.items ≡ [] }
 {
-    let peer = cleared.pop_first()?;
-    Some(Unit {
-        place: at.place(None),
-        time: at.time(0),
-        peer,
-        payload: Payload::Clear,
-    })
+    let peer = peers.pop_front()?;
+    Some(told.unit(at, peer))
 }
 
 impl<F: Unicast> Waiting<F> {
@@ -68,7 +85,8 @@ impl<F: Unicast> Waiting<F> {
     {
         Waiting {
             first: None,
-            cleared: BTreeSet::new(alloc),
+            others: VecDeque::new(alloc),
+            told: Told::Clear,
             at: RecordAt {
                 file: 0,
                 offset: 0,
@@ -94,16 +112,17 @@ impl<F: Unicast> Waiting<F> {
         self.first = Some(unit);
     }
 
-    /// Keeps the clears of these peers' tables by a record at this place.
-    pub(crate) fn put_clears(&mut self, at: RecordAt, peers: BTreeSet<PeerKey>)
+    /// Keeps to be returned what a record at this place says of these peers.
+    pub(crate) fn put_told(&mut self, at: RecordAt, told: Told, peers: VecDeque<PeerKey>)
         requires { self.old ≡ [] }
-        ensures { self.new ≡ map (clear_unit at) peers.keys }
+        ensures { self.new ≡ map (waiting_spec.told_unit at told) peers.items }
     {
-        let mut cleared = peers;
-        let first = next_clear(&at, &mut cleared);
+        let mut others = peers;
+        let first = next_told(&at, &told, &mut others);
         self.first = first;
         self.at = at;
-        self.cleared = cleared;
+        self.told = told;
+        self.others = others;
     }
 
     /// Skips what is still to be returned.
@@ -111,7 +130,7 @@ impl<F: Unicast> Waiting<F> {
         ensures { self.new ≡ [] }
     {
         self.first = None;
-        self.cleared.clear();
+        self.others.clear();
     }
 
     /// Lends the next unit, if there is one.
@@ -129,8 +148,8 @@ impl<F: Unicast> Waiting<F> {
         ensures { self.new ≡ drop 1 self.old }
     {
         let unit = self.first.take()?;
-        if !self.cleared.is_empty() {
-            self.first = pop_clear(&self.at, &mut self.cleared);
+        if !self.others.is_empty() {
+            self.first = next_told(&self.at, &self.told, &mut self.others);
         }
         block_of(unit)
     }

@@ -167,7 +167,7 @@ module _ (dealing : ℕ → ℕ → ℕ) (plan : Plan) where
             aside = λ contents known.
                 let x = last.takes.found contents known in
                 let none : x.0 ≡ [] = none_known next.file later x.0 (size ∙ sym at_end) x.1 in
-                let cuts : count_by (is_aside next.selection.rules.family) (cuts_to_come next x.0) ≡ 0 = ap (λ l. count_by (is_aside next.selection.rules.family) (cuts_to_come next l)) none in
+                let cuts : count_by (is_aside next.selection) (cuts_to_come next x.0) ≡ 0 = ap (λ l. count_by (is_aside next.selection) (cuts_to_come next l)) none in
                 omega (arith, x.2.aside, cuts);
             took = last.took;
             few = (let h = last.takes.few in omega arith);

@@ -45,7 +45,7 @@ pub record IsReplayOf {M A : Type 0} (selection : UnitSelection) (plan : Plan) (
       ≡ chosen_tables (choices_of selection) (tables_of (units_of selection files) (refused_of selection files))
   pub records_counted : r.records ≡ records_of files
   pub units_counted : r.units ≡ length (units_of selection files)
-  pub aside_counted : r.aside ≡ aside_of selection.rules.family files
+  pub aside_counted : r.aside ≡ aside_of selection files
   pub few_rounds : r.rounds ≤ 2 * r.units / plan.ring + r.units / plan.batch + 2
   pub two_rounds : 2 ≤ r.rounds
   pub enough_rounds : r.units ≤ (r.rounds - 1) * plan.batch

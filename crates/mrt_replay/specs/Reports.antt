@@ -95,7 +95,7 @@ RoundsOf (Some listing) plan s = s.rounds ≡ 0
 pub record IsSummary (request : Request) (selection : UnitSelection) (plan : Plan) (files : List (List ℕ)) (s : Summary) : Type 0 where
   pub records : s.records ≡ records_of files
   pub units : s.units ≡ length (units_of selection files)
-  pub aside : s.aside ≡ aside_of selection.rules.family files
+  pub aside : s.aside ≡ aside_of selection files
   pub damaged : s.damaged ≡ stopped (length (listed_faults selection files))
   pub peers : s.peers ≡ length (peers_of (units_of selection files))
   pub routes : s.routes

@@ -6,7 +6,7 @@ use Rattle.byteorder.specs.Numbers.{length-bytes_high_first}
 use Rattle.mrt_frame.specs.declared.fault.Fault.{Fault}
 use Rattle.mrt_frame.specs.Cuts.{cuts, file_limit}
 use Rattle.bgp_update.specs.declared.width.Width.TheVariants.{Four}
-use Rattle.bgp_update.specs.Families.{FamilyOf, Rules, ipv4, ipv6}
+use Rattle.bgp_update.specs.Families.{FamilyOf, RouteRules, Rules, by_entry_width, route_rules, ipv4, ipv6}
 use Rattle.peer_units.specs.declared.rib_rule.RibRule.{RibRule}
 use Rattle.peer_units.specs.declared.rib_rule.RibRule.TheVariants.{Add}
 use Rattle.std.proofs.lemmas.List.Elements.{filter-append}
@@ -27,7 +27,7 @@ use Rattle.mrt_body.specs.Indexes.{index_bytes, addr_bytes, peer_bytes}
 use Rattle.mrt_body.specs.Bgp4mp.{session_bytes}
 use Rattle.mrt_body.specs.RibRecords.{rib_bytes}
 use Rattle.mrt_body.specs.RibDumps.{DumpsState, heard_of, dumps_with}
-use Rattle.mrt_body.specs.Units.{units_in, session_unit, body_kind_of, message_unit, at_record, is_extended, found_at, found_from, found_in_file, index_after, dumps_after, clears_if, begins, if_read, index_with, clear_unit, dumps_behind, is_index_content, units_or_none, selected_units, found_units}
+use Rattle.mrt_body.specs.Units.{units_in, session_unit, body_kind_of, message_unit, at_record, is_extended, found_at, found_from, found_in_file, index_after, dumps_after, clears_if, begins, if_read, index_with, clear_unit, dumps_behind, dumps_told, peers_named, is_index_content, units_or_none, selected_units, found_units}
 use Rattle.mrt_body.proofs.SessionForms.{message_body-again}
 use Rattle.mrt_body.proofs.IndexLaws.{found_in_file-is}
 use Rattle.mrt_writing.specs.Heads.{written_index, written_peer, FitsPeerKey, written_session, zero_addr}
@@ -38,14 +38,14 @@ use Rattle.peer_units.specs.Events.{message_bytes, UPDATE}
 use Rattle.mrt_writing.specs.Records.{WrittenRecord, FitsRecord, written_size, cut_of, cuts_of_records, records_bytes}
 use Rattle.mrt_writing.specs.Kinds.{rib_subtype, message_subtype}
 use Rattle.mrt_writing.specs.Dumps.{DumpRecord, state, rib, update, has_identifier, index_record, record_of, dump_records, FitsDumpRecord, HasRibKinds, FitsDump, units_of_record, units_of_dump}
-use Rattle.mrt_writing.proofs.BodyLaws.{rib_again, states_again, index_again, session_fits}
+use Rattle.mrt_writing.proofs.BodyLaws.{rib_again, change_read, index_again, session_fits}
 use Rattle.mrt_writing.proofs.RecordLaws.{records-cut}
 
 -- ---- one record
 
 -- what its kind makes of its body
-abbrev read_record : Rules → StateRule → RecordAt → List PeerKey → WrittenRecord → Result (List ReplayUnit) Fault
-read_record rules rule at peers r = units_in rules rule at (is_extended r.kind) (Some peers) (body_kind_of rules.family r.kind r.subtype) r.body
+abbrev read_record : UnitSelection → List PeerKey → RecordAt → List PeerKey → WrittenRecord → Result (List ReplayUnit) Fault
+read_record selection known at peers r = units_in selection known at (is_extended r.kind) (Some peers) (body_kind_of selection.rules.family r.kind r.subtype) r.body
 
 message_again : (rules : Rules) (at : RecordAt) (add_path : Bool) (p : PeerKey) (message : List ℕ) → FitsPeerKey p
     → message_unit rules at false Four add_path (message_body p message) ≡ Ok (session_unit at 0 p (Message message Four add_path rules))
@@ -60,21 +60,21 @@ message_again rules at add_path p message h =
       said = refl;
     })
 
-message_read : (rules : Rules) (rule : StateRule) (at : RecordAt) (peers : List PeerKey) (b : Bool) (p : PeerKey) (message : List ℕ) → FitsPeerKey p
-    → units_in rules rule at false (Some peers) (body_kind_of rules.family 16 (message_subtype b)) (message_body p message) ≡ Ok (session_unit at 0 p (Message message Four b rules) ∷ [])
+message_read : (selection : UnitSelection) (known : List PeerKey) (at : RecordAt) (peers : List PeerKey) (b : Bool) (p : PeerKey) (message : List ℕ) → FitsPeerKey p
+    → units_in selection known at false (Some peers) (body_kind_of selection.rules.family 16 (message_subtype b)) (message_body p message) ≡ Ok (session_unit at 0 p (Message message Four b selection.rules) ∷ [])
 unfolding body_kind_of
-message_read rules rule at peers true p message h = rw (message_again rules at true p message h) refl
-message_read rules rule at peers false p message h = rw (message_again rules at false p message h) refl
+message_read selection known at peers true p message h = rw (message_again selection.rules at true p message h) refl
+message_read selection known at peers false p message h = rw (message_again selection.rules at false p message h) refl
 
-pub record_again : (rules : Rules) (rule : StateRule) (file offset seconds : ℕ) (peers : List PeerKey) (r : DumpRecord) → HasRibKinds rules.family → FitsDumpRecord rules seconds peers r
-    → read_record rules rule (at_record file offset seconds) peers (record_of rules.family seconds r) ≡ Ok (units_of_record rules rule (at_record file offset seconds) peers r)
+pub record_again : (selection : UnitSelection) (known : List PeerKey) (file offset seconds : ℕ) (peers : List PeerKey) (r : DumpRecord) → HasRibKinds selection.rules.family → FitsDumpRecord (route_rules selection.rules) seconds peers r
+    → read_record selection known (at_record file offset seconds) peers (record_of selection.rules.family seconds r) ≡ Ok (units_of_record selection.rules selection.states (at_record file offset seconds) peers r)
 unfolding body_kind_of
-record_again rules rule file offset seconds peers (state p to) kinds h = rw (states_again rule (at_record file offset seconds) p 6 to h.0 (omega arith) h.1) refl
-record_again rules rule file offset seconds peers (rib sequence add_path prefix entries) kinds h =
-    ap (λ (k : BodyKind). units_in rules rule (at_record file offset seconds) false (Some peers) k (rib_bytes add_path (written_rib rules.family seconds sequence prefix entries))) (kinds.kinds add_path)
-    ∙ rib_again rules (at_record file offset seconds) add_path peers seconds sequence prefix entries h.0
-record_again rules rule file offset seconds peers (update p key r) kinds h =
-    message_read rules rule (at_record file offset seconds) peers (has_identifier key) p (update_message rules.family (has_identifier key) key r) h.0
+record_again selection known file offset seconds peers (state p to) kinds h = change_read selection known (at_record file offset seconds) p 6 to h.0 (omega arith) h.1
+record_again selection known file offset seconds peers (rib sequence add_path prefix entries) kinds h =
+    ap (λ (k : BodyKind). units_in selection known (at_record file offset seconds) false (Some peers) k (rib_bytes add_path (written_rib selection.rules.family seconds sequence prefix entries))) (kinds.kinds add_path)
+    ∙ rib_again (by_entry_width Four selection.rules) (at_record file offset seconds) add_path peers seconds sequence prefix entries h.0
+record_again selection known file offset seconds peers (update p key r) kinds h =
+    message_read selection known (at_record file offset seconds) peers (has_identifier key) p (update_message selection.rules.family (has_identifier key) key r) h.0
 
 -- each has the time of the dump
 seconds_are : (family : FamilyOf) (seconds : ℕ) (r : DumpRecord) → (record_of family seconds r).seconds ≡ seconds
@@ -82,10 +82,10 @@ seconds_are family seconds (state p to) = refl
 seconds_are family seconds (rib sequence add_path prefix entries) = refl
 seconds_are family seconds (update p key r) = refl
 
-record_seconds : (rules : Rules) (rule : StateRule) (file offset seconds : ℕ) (peers : List PeerKey) (r : DumpRecord) → HasRibKinds rules.family → FitsDumpRecord rules seconds peers r
-    → read_record rules rule (at_record file offset (record_of rules.family seconds r).seconds) peers (record_of rules.family seconds r) ≡ Ok (units_of_record rules rule (at_record file offset seconds) peers r)
-record_seconds rules rule file offset seconds peers r kinds h =
-    ap (λ (n : ℕ). read_record rules rule (at_record file offset n) peers (record_of rules.family seconds r)) (seconds_are rules.family seconds r) ∙ record_again rules rule file offset seconds peers r kinds h
+record_seconds : (selection : UnitSelection) (known : List PeerKey) (file offset seconds : ℕ) (peers : List PeerKey) (r : DumpRecord) → HasRibKinds selection.rules.family → FitsDumpRecord (route_rules selection.rules) seconds peers r
+    → read_record selection known (at_record file offset (record_of selection.rules.family seconds r).seconds) peers (record_of selection.rules.family seconds r) ≡ Ok (units_of_record selection.rules selection.states (at_record file offset seconds) peers r)
+record_seconds selection known file offset seconds peers r kinds h =
+    ap (λ (n : ℕ). read_record selection known (at_record file offset n) peers (record_of selection.rules.family seconds r)) (seconds_are selection.rules.family seconds r) ∙ record_again selection known file offset seconds peers r kinds h
 
 -- ---- all records
 
@@ -112,10 +112,10 @@ heard_none ribs begun dumps units add e = ap (λ (rule : RibRule). heard_of rule
     by_begun true = refl
     by_begun false = e
 
-pub behind_none : (selection : UnitSelection) (begun : Bool) (dumps : DumpsState) (k : BodyKind) (read : Result (List ReplayUnit) Fault) → selection.ribs ≡ Add → dumps.heard ≡ [] → (dumps_behind selection begun dumps k read).heard ≡ []
-behind_none selection begun dumps k read add e = by_kind (is_index_content k)
+pub behind_none : (selection : UnitSelection) (begun : Bool) (dumps : DumpsState) (k : BodyKind) (body : List ℕ) (read : Result (List ReplayUnit) Fault) → selection.ribs ≡ Add → dumps.heard ≡ [] → (dumps_behind selection begun dumps k body read).heard ≡ []
+behind_none selection begun dumps k body read add e = by_kind (is_index_content k)
   where
-    by_kind : (b : Bool) → (cond {A = DumpsState} b (record (dumps_with selection.ribs begun dumps (units_or_none (selected_units selection read))) { begun = false }) (dumps_with selection.ribs begun dumps (units_or_none (selected_units selection read)))).heard ≡ []
+    by_kind : (b : Bool) → (cond {A = DumpsState} b (record (dumps_told selection begun dumps (peers_named k body read) read) { begun = false }) (dumps_told selection begun dumps (peers_named k body read) read)).heard ≡ []
     by_kind true = heard_none selection.ribs begun dumps (units_or_none (selected_units selection read)) add e
     by_kind false = heard_none selection.ribs begun dumps (units_or_none (selected_units selection read)) add e
 
@@ -127,7 +127,7 @@ given-append selection xs ys = sym (ap (map (λ (u : ReplayUnit). found.Unit u))
 
 -- a whole record that is read gives its units
 found_read : (file : ℕ) (selection : UnitSelection) (index : Option (List PeerKey)) (dumps : DumpsState) (offset : ℕ) (r : WrittenRecord) (units : List ReplayUnit) → dumps.heard ≡ []
-    → units_in selection.rules selection.states (at_record file offset r.seconds) (is_extended r.kind) index (body_kind_of selection.rules.family r.kind r.subtype) r.body ≡ Ok units
+    → units_in selection dumps.known (at_record file offset r.seconds) (is_extended r.kind) index (body_kind_of selection.rules.family r.kind r.subtype) r.body ≡ Ok units
     → found_at file selection index dumps (cut_of offset r) ≡ given selection units
 unfolding found_at
 found_read file selection index dumps offset r units e read =
@@ -139,10 +139,10 @@ dumps_read : (file : ℕ) (selection : UnitSelection) (index : Option (List Peer
 dumps_read file selection index dumps offset r add e =
     let at = at_record file offset r.seconds in
     let k = body_kind_of selection.rules.family r.kind r.subtype in
-    behind_none selection (begins selection at index dumps k r.body) dumps k (units_in selection.rules selection.states at (is_extended r.kind) index k r.body) add e
+    behind_none selection (begins selection at index dumps k r.body) dumps k r.body (units_in selection dumps.known at (is_extended r.kind) index k r.body) add e
 
 found_records : (file : ℕ) (selection : UnitSelection) (seconds : ℕ) (peers : List PeerKey) (dumps : DumpsState) (offset : ℕ) (records : List DumpRecord) → selection.ribs ≡ Add → dumps.heard ≡ [] → HasRibKinds selection.rules.family
-    → AllByRecursion (FitsDumpRecord selection.rules seconds peers) records
+    → AllByRecursion (FitsDumpRecord (route_rules selection.rules) seconds peers) records
     → found_from file selection (Some peers) dumps (cuts_of_records offset (map (record_of selection.rules.family seconds) records)) ≡ given selection (units_of_dump file offset selection.rules selection.states seconds peers records)
 found_records file selection seconds peers dumps offset [] add e kinds fit = refl
 found_records file selection seconds peers dumps offset (r ∷ records) add e kinds fit =
@@ -151,7 +151,7 @@ found_records file selection seconds peers dumps offset (r ∷ records) add e ki
     let units = units_of_record selection.rules selection.states (at_record file offset seconds) peers r in
     let more = units_of_dump file (offset + written_size w) selection.rules selection.states seconds peers records in
     let first : found_at file selection (Some peers) dumps (cut_of offset w) ≡ given selection units =
-    found_read file selection (Some peers) dumps offset w units e (record_seconds selection.rules selection.states file offset seconds peers r kinds fit.0) in
+    found_read file selection (Some peers) dumps offset w units e (record_seconds selection dumps.known file offset seconds peers r kinds fit.0) in
     let rest : found_from file selection (index_after selection.rules.family (Some peers) (cut_of offset w)) behind (cuts_of_records (offset + written_size w) (map (record_of selection.rules.family seconds) records)) ≡ given selection more =
     ap (λ (index : Option (List PeerKey)). found_from file selection index behind (cuts_of_records (offset + written_size w) (map (record_of selection.rules.family seconds) records))) (record_is_no_index selection.rules.family seconds (Some peers) offset r kinds)
     ∙ found_records file selection seconds peers behind (offset + written_size w) records add (dumps_read file selection (Some peers) dumps offset w add e) kinds fit.1 in
@@ -163,10 +163,10 @@ index_said : (selection : UnitSelection) (seconds : ℕ) (peers : List PeerKey) 
 unfolding body_kind_of
 index_said selection seconds peers index offset few h = ap if_read (index_again peers few h)
 
-index_read : (selection : UnitSelection) (file offset seconds : ℕ) (peers : List PeerKey) (index : Option (List PeerKey)) → length peers < 256 ^ 2 → AllByRecursion FitsPeerKey peers
-    → units_in selection.rules selection.states (at_record file offset seconds) false index (body_kind_of selection.rules.family 13 1) (index_bytes (written_index peers)) ≡ Ok []
+index_read : (selection : UnitSelection) (known : List PeerKey) (file offset seconds : ℕ) (peers : List PeerKey) (index : Option (List PeerKey)) → length peers < 256 ^ 2 → AllByRecursion FitsPeerKey peers
+    → units_in selection known (at_record file offset seconds) false index (body_kind_of selection.rules.family 13 1) (index_bytes (written_index peers)) ≡ Ok []
 unfolding body_kind_of
-index_read selection file offset seconds peers index few h = rw (index_again peers few h) refl
+index_read selection known file offset seconds peers index few h = rw (index_again peers few h) refl
 
 addr-short : (addr : PeerAddr) → length (addr_bytes addr) ≤ 16
 addr-short (V4 a) = omega (arith, length-bytes_high_first 4 a)
@@ -200,7 +200,7 @@ message-length kind body = omega (arith, length-append (big_bytes 2 (19 + length
 update-short : (p : PeerKey) (body : List ℕ) → 19 + length body < 256 ^ 2 → length (message_body p (message_bytes UPDATE body)) ≤ 16777216
 update-short p body short = omega (arith, body-short p (message_bytes UPDATE body), message-length UPDATE body, short)
 
-record_fits : (rules : Rules) (seconds : ℕ) (peers : List PeerKey) (r : DumpRecord) → seconds < 256 ^ 4 → HasRibKinds rules.family → FitsDumpRecord rules seconds peers r → FitsRecord (record_of rules.family seconds r)
+record_fits : (rules : RouteRules) (seconds : ℕ) (peers : List PeerKey) (r : DumpRecord) → seconds < 256 ^ 4 → HasRibKinds rules.family → FitsDumpRecord rules seconds peers r → FitsRecord (record_of rules.family seconds r)
 record_fits rules seconds peers (state p to) time kinds h = record {
   seconds = time;
   kind = omega arith;
@@ -219,12 +219,12 @@ record_fits rules seconds peers (update p key r) time kinds h = record {
     subtype-lt true = omega arith
     subtype-lt false = omega arith
 
-records_fit : (rules : Rules) (seconds : ℕ) (peers : List PeerKey) (records : List DumpRecord) → seconds < 256 ^ 4 → HasRibKinds rules.family → AllByRecursion (FitsDumpRecord rules seconds peers) records → AllByRecursion FitsRecord (map (record_of rules.family seconds) records)
+records_fit : (rules : RouteRules) (seconds : ℕ) (peers : List PeerKey) (records : List DumpRecord) → seconds < 256 ^ 4 → HasRibKinds rules.family → AllByRecursion (FitsDumpRecord rules seconds peers) records → AllByRecursion FitsRecord (map (record_of rules.family seconds) records)
 records_fit rules seconds peers [] time kinds h = tt
 records_fit rules seconds peers (r ∷ records) time kinds h = (record_fits rules seconds peers r time kinds h.0, records_fit rules seconds peers records time kinds h.1)
 
 -- a dump that fits is read as its units
-pub dump_found : (file : ℕ) (selection : UnitSelection) (seconds : ℕ) (peers : List PeerKey) (dumps : DumpsState) (records : List DumpRecord) → selection.ribs ≡ Add → dumps.heard ≡ [] → FitsDump selection.rules seconds peers records
+pub dump_found : (file : ℕ) (selection : UnitSelection) (seconds : ℕ) (peers : List PeerKey) (dumps : DumpsState) (records : List DumpRecord) → selection.ribs ≡ Add → dumps.heard ≡ [] → FitsDump (route_rules selection.rules) seconds peers records
     → length (records_bytes (dump_records selection.rules.family seconds peers records)) ≤ file_limit
     → found_in_file selection file dumps (records_bytes (dump_records selection.rules.family seconds peers records))
     ≡ given selection (units_of_dump file (written_size (index_record selection.rules.family seconds peers)) selection.rules selection.states seconds peers records)
@@ -232,10 +232,10 @@ dump_found file selection seconds peers dumps records add e h short =
     let head = index_record selection.rules.family seconds peers in
     let others = map (record_of selection.rules.family seconds) records in
     let bytes : List ℕ = records_bytes (head ∷ others) in
-    let fit : AllByRecursion FitsRecord (head ∷ others) = (record { seconds = h.time; kind = omega arith; subtype = omega arith; body = index-short peers h.few }, records_fit selection.rules seconds peers records h.time h.kinds h.each) in
+    let fit : AllByRecursion FitsRecord (head ∷ others) = (record { seconds = h.time; kind = omega arith; subtype = omega arith; body = index-short peers h.few }, records_fit (route_rules selection.rules) seconds peers records h.time h.kinds h.each) in
     let cut : cuts 0 bytes ≡ cut_of 0 head ∷ cuts_of_records (0 + written_size head) others = records-cut 0 (head ∷ others) fit (omega (arith, short)) in
     let behind = dumps_after file selection None dumps (cut_of 0 head) in
-    let first : found_at file selection None dumps (cut_of 0 head) ≡ [] = found_read file selection None dumps 0 head [] e (index_read selection file 0 seconds peers None h.few h.fit_peers) in
+    let first : found_at file selection None dumps (cut_of 0 head) ≡ [] = found_read file selection None dumps 0 head [] e (index_read selection dumps.known file 0 seconds peers None h.few h.fit_peers) in
     let rest : found_from file selection (index_after selection.rules.family None (cut_of 0 head)) behind (cuts_of_records (0 + written_size head) others) ≡ given selection (units_of_dump file (0 + written_size head) selection.rules selection.states seconds peers records) =
     ap (λ (index : Option (List PeerKey)). found_from file selection index behind (cuts_of_records (0 + written_size head) others)) (index_said selection seconds peers None 0 h.few h.fit_peers)
     ∙ found_records file selection seconds peers behind (0 + written_size head) records add (dumps_read file selection None dumps 0 head add e) h.kinds h.each in

@@ -13,7 +13,7 @@ use Rattle.std.proofs.lemmas.Bool.{false≢true}
 use Rattle.bgp_update.specs.declared.kept_attribute.KeptAttribute.{KeptAttribute}
 use Rattle.bgp_update.specs.declared.kept_attribute.KeptAttribute.TheVariants.{Communities}
 use Rattle.bgp_update.specs.KeptAttributes.{KeptValue, has, no_attributes}
-use Rattle.bgp_update.specs.Families.{ipv4, ipv6, rules_of}
+use Rattle.bgp_update.specs.Families.{ipv4, ipv6, route_rules_of}
 use Rattle.peer_units.specs.declared.unit.PeerAddr.TheVariants.{V4, V6}
 use Rattle.peer_units.specs.declared.unit.PeerKey.{PeerKey}
 use Rattle.mrt_body.specs.Indexes.{index_bytes}
@@ -62,7 +62,7 @@ ipv4_entry : entry_field ipv4 (by hop_v4 []) ≡ front ++ (64 ∷ 3 ∷ 4 ∷ 19
 unfolding entry_attributes
 ipv4_entry = refl
 
-ipv4_fits : FitsEntryRoute (rules_of ipv4 no_attributes) (by hop_v4 [])
+ipv4_fits : FitsEntryRoute (route_rules_of ipv4 no_attributes) (by hop_v4 [])
 unfolding entry_attributes
 ipv4_fits = record {
   packs = record {

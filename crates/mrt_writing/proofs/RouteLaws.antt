@@ -31,7 +31,7 @@ use Rattle.bgp_update.specs.declared.kept_attribute.KeptAttribute.{KeptAttribute
 use Rattle.bgp_update.specs.declared.kept_attribute.KeptAttribute.TheVariants.{Communities}
 use Rattle.bgp_update.specs.KeptBytes.{IsShort}
 use Rattle.bgp_update.specs.KeptAttributes.{IsKeptValue, has, kept_code, value_kept}
-use Rattle.bgp_update.specs.Families.{FamilyOf, Rules}
+use Rattle.bgp_update.specs.Families.{FamilyOf, RouteRules}
 use Rattle.bgp_update.specs.Hops.{by_hop}
 use Rattle.bgp_update.specs.Equality.{origin_number}
 use Rattle.bgp_update.specs.Merging.{aggregator_of}
@@ -205,7 +205,7 @@ kept_is_formed : (asked : Bool) (a : KeptAttribute) (o : Option (List ℕ)) → 
 kept_is_formed asked a None h = tt
 kept_is_formed asked a (Some value) h = h
 
-pub values_formed : (rules : Rules) (context : AttributeContext) (own reach : Option (List ℕ)) (r : Route) → CanPack r → IsKeptBy rules.kept r.kept → IfSome own (λ value. length value ≡ 4) → IfSome reach (HoldsReach rules.family context) → (t : AttributeType) → IfSome (route_values own reach r t) (IsFormed rules context Four t)
+pub values_formed : (rules : RouteRules) (context : AttributeContext) (own reach : Option (List ℕ)) (r : Route) → CanPack r → IsKeptBy rules.kept r.kept → IfSome own (λ value. length value ≡ 4) → IfSome reach (HoldsReach rules.family context) → (t : AttributeType) → IfSome (route_values own reach r t) (IsFormed rules context Four t)
 values_formed rules context own reach r packs kept own_is reach_is types.Origin = origin_formed r.origin
 values_formed rules context own reach r packs kept own_is reach_is types.AsPath = path_formed r.path packs.path
 values_formed rules context own reach r packs kept own_is reach_is types.NextHop = own_is
@@ -278,7 +278,7 @@ reach_said : (family : FamilyOf) (hop : Option NextHop) → IfSome hop FitsHop �
 reach_said family None fits = refl
 reach_said family (Some hop) fits = inl (record { fits = fits; spelled = refl })
 
-entry_said : (own : Bool) (rules : Rules) (r : Route) (attributes : List WrittenAttribute) → CanPack r → IsKeptBy rules.kept r.kept → HasEntryHop own r.next_hop
+entry_said : (own : Bool) (rules : RouteRules) (r : Route) (attributes : List WrittenAttribute) → CanPack r → IsKeptBy rules.kept r.kept → HasEntryHop own r.next_hop
     → ((t : AttributeType) → value_of t attributes ≡ route_values (own_hop own r.next_hop) (entry_reach own r.next_hop) r t) → SaysRoute own rules Four attributes r
 entry_said true rules r attributes packs kept h same =
     sym (route_from_same rules.kept Four (λ t. value_of t attributes) (route_values (own_hop true r.next_hop) None r) (λ t looked. same t) ∙ values_said rules.kept (own_hop true r.next_hop) None r packs kept ∙ ap (by_hop r) (own_said r.next_hop h packs.fields.next_hop))
@@ -288,7 +288,7 @@ entry_said false rules r attributes packs kept h same = (
   sym (ap (λ (q : Route). by_hop q r.next_hop) (route_from_same rules.kept Four (λ t. value_of t attributes) (route_values None (entry_reach false r.next_hop) r) (λ t looked. same t) ∙ values_said rules.kept None (entry_reach false r.next_hop) r packs kept)),
 )
 
-pub entry_reads : (rules : Rules) (r : Route) → FitsEntryRoute rules r → ReadsAsRoute rules Four (attributes_bytes (entry_attributes rules.family r)) r
+pub entry_reads : (rules : RouteRules) (r : Route) → FitsEntryRoute rules r → ReadsAsRoute rules Four (attributes_bytes (entry_attributes rules.family r)) r
 unfolding entry_attributes
 entry_reads rules r h =
     let family = rules.family in
@@ -307,7 +307,7 @@ entry_reads rules r h =
     }
 
 -- a route that fits is given back
-pub entry_again : (rules : Rules) (r : Route) → FitsEntryRoute rules r → route_in rules Four (attributes_bytes (entry_attributes rules.family r)) ≡ Ok r
+pub entry_again : (rules : RouteRules) (r : Route) → FitsEntryRoute rules r → route_in rules Four (attributes_bytes (entry_attributes rules.family r)) ≡ Ok r
 entry_again rules r h = route_again rules Four (attributes_bytes (entry_attributes rules.family r)) r (entry_reads rules r h)
 
 -- ---- one type after the other

@@ -11,7 +11,7 @@ use Rattle.bgp_update.specs.declared.attribute_context.AttributeContext.TheVaria
 use Rattle.bgp_update.specs.declared.next_hop.NextHop.{NextHop}
 use Rattle.bgp_update.specs.declared.route.Route.{Route}
 use Rattle.bgp_update.specs.declared.width.Width.TheVariants.{Four}
-use Rattle.bgp_update.specs.Families.{FamilyOf, KeyForm, Rules, form_of}
+use Rattle.bgp_update.specs.Families.{FamilyOf, KeyForm, Rules, form_of, route_rules}
 use Rattle.bgp_update.specs.Hops.{by_hop}
 use Rattle.bgp_update.specs.Attributes.{WrittenAttribute, AreAttributes, IsFormed, HoldsReach, attributes_bytes, value_of, route_of}
 use Rattle.bgp_update.specs.Keys.{IsWrittenKey, identifier_len, key_of}
@@ -51,7 +51,7 @@ own_nothing : (own : Bool) (form : KeyForm) → SaysOwn own form [] []
 own_nothing true form = record { written = []; formed = tt; spelled = refl; said = refl }
 own_nothing false form = refl
 
-module _ (rules : Rules) (add_path : Bool) (key : RouteKey) (r : Route) (h : FitsUpdate rules add_path key r) where
+module _ (rules : Rules) (add_path : Bool) (key : RouteKey) (r : Route) (h : FitsUpdate (route_rules rules) add_path key r) where
   abbrev family : FamilyOf
   family = rules.family
 
@@ -78,11 +78,11 @@ module _ (rules : Rules) (add_path : Bool) (key : RouteKey) (r : Route) (h : Fit
   attributes_short =
       omega (arith, h.short, length-append (attributes_bytes attributes) [], length-append (big_bytes 2 (length (attributes_bytes attributes))) (attributes_bytes attributes ++ []), length-append (big_bytes 2 0) (big_bytes 2 (length (attributes_bytes attributes)) ++ (attributes_bytes attributes ++ [])))
 
-  are_attributes : AreAttributes rules (context.Message add_path) Four attributes
+  are_attributes : AreAttributes (route_rules rules) (context.Message add_path) Four attributes
   are_attributes = record {
     fit = all_fit values types_in_order (length (attributes_bytes attributes)) (omega arith) attributes_short;
-    formed = λ t. subst (λ (o : Option (List ℕ)). IfSome o (IsFormed rules (context.Message add_path) Four t)) (sym (value_in_order values t))
-        (values_formed rules (context.Message add_path) None (option_map (reach_value family add_path key) r.next_hop) r h.packs h.kept tt reach_holds t);
+    formed = λ t. subst (λ (o : Option (List ℕ)). IfSome o (IsFormed (route_rules rules) (context.Message add_path) Four t)) (sym (value_in_order values t))
+        (values_formed (route_rules rules) (context.Message add_path) None (option_map (reach_value family add_path key) r.next_hop) r h.packs h.kept tt reach_holds t);
     once = λ t refused. once_in_order values t;
   }
 
@@ -98,7 +98,7 @@ module _ (rules : Rules) (add_path : Bool) (key : RouteKey) (r : Route) (h : Fit
   route_said : by_hop r None ≡ route_of rules.kept Four attributes
   route_said = sym (route_from_same rules.kept Four (λ t. value_of t attributes) values (λ t looked. value_in_order values t) ∙ values_said rules.kept None (option_map (reach_value family add_path key) r.next_hop) r h.packs h.kept)
 
-  pub update_reads : ReadsAsUpdate rules Four add_path (update_bytes (written_update rules.family add_path key r)) (reaching key r)
+  pub update_reads : ReadsAsUpdate (route_rules rules) Four add_path (update_bytes (written_update rules.family add_path key r)) (reaching key r)
   unfolding written_update
   update_reads = record {
     form = written_update family add_path key r;

@@ -6,7 +6,7 @@ use Rattle.bgp_prefix.specs.Keys.{RouteKey}
 use Rattle.mrt_frame.specs.Cuts.{body_limit}
 use Rattle.bgp_update.specs.declared.route.Route.{Route}
 use Rattle.bgp_update.specs.declared.width.Width.TheVariants.{Four}
-use Rattle.bgp_update.specs.Families.{FamilyOf, Rules}
+use Rattle.bgp_update.specs.Families.{FamilyOf, RouteRules, Rules, by_entry_width}
 use Rattle.peer_units.specs.declared.state_rule.StateRule.{StateRule}
 use Rattle.peer_units.specs.declared.unit.PeerKey.{PeerKey}
 use Rattle.peer_units.specs.declared.unit.Payload.TheVariants as payload
@@ -63,7 +63,7 @@ dump_records family seconds peers records = index_record family seconds peers �
 
 -- ---- what can be written
 
-abbrev pub FitsDumpRecord : Rules → ℕ → List PeerKey → DumpRecord → Type 0
+abbrev pub FitsDumpRecord : RouteRules → ℕ → List PeerKey → DumpRecord → Type 0
 FitsDumpRecord rules seconds peers (state p to) = FitsPeerKey p × (to < 256 ^ 2)
 FitsDumpRecord rules seconds peers (rib sequence add_path prefix entries) =
     FitsPrefixRecord rules add_path (length peers) seconds sequence prefix entries
@@ -75,7 +75,7 @@ pub record HasRibKinds (family : FamilyOf) : Type 0 where
   pub kinds : (add_path : Bool) → body_kind_of family 13 (rib_subtype family add_path) ≡ content.Rib add_path
   pub fit : (add_path : Bool) → rib_subtype family add_path < 256 ^ 2
 
-pub record FitsDump (rules : Rules) (seconds : ℕ) (peers : List PeerKey) (records : List DumpRecord) : Type 0 where
+pub record FitsDump (rules : RouteRules) (seconds : ℕ) (peers : List PeerKey) (records : List DumpRecord) : Type 0 where
   pub time : seconds < 256 ^ 4
   pub kinds : HasRibKinds rules.family
   pub few : length peers < 256 ^ 2
@@ -87,7 +87,7 @@ pub record FitsDump (rules : Rules) (seconds : ℕ) (peers : List PeerKey) (reco
 abbrev pub units_of_record : Rules → StateRule → RecordAt → List PeerKey → DumpRecord → List ReplayUnit
 units_of_record rules rule at peers (state p to) = session_unit at 0 p (payload.State ESTABLISHED to rule) ∷ []
 units_of_record rules rule at peers (rib sequence add_path prefix entries) =
-    units_of_entries rules at peers prefix 1 entries
+    units_of_entries (by_entry_width Four rules) at peers prefix 1 entries
 units_of_record rules rule at peers (update p key r) =
     session_unit at 0 p
     (payload.Message (update_message rules.family (has_identifier key) key r) Four (has_identifier key) rules)

@@ -4,7 +4,7 @@ use Rattle.std.specs.List.{AllByRecursion}
 use Rattle.byteorder.specs.Endian.{big_bytes}
 use Rattle.bgp_prefix.specs.Prefixes.{IpPrefix, IsIpPrefix}
 use Rattle.bgp_update.specs.declared.route.Route.{Route}
-use Rattle.bgp_update.specs.Families.{FamilyOf, Rules}
+use Rattle.bgp_update.specs.Families.{FamilyOf, RouteRules, Rules}
 use Rattle.bgp_update.specs.Attributes.{attributes_bytes}
 use Rattle.peer_units.specs.declared.unit.PeerKey.{PeerKey}
 use Rattle.peer_units.specs.Plain.{Unit as ReplayUnit}
@@ -46,14 +46,14 @@ written_rib family originated sequence prefix entries = record {
 }
 
 -- the route can be an entry beside an index of so many peers
-pub record FitsPrefixRoute (rules : Rules) (add_path : Bool) (peers : ℕ) (e : PrefixRoute) : Type 0 where
+pub record FitsPrefixRoute (rules : RouteRules) (add_path : Bool) (peers : ℕ) (e : PrefixRoute) : Type 0 where
   pub known : e.peer < peers
   pub peer : e.peer < 256 ^ 2
   pub id : FitsIdentifier add_path e.id
   pub route : FitsEntryRoute rules e.route
 
 -- the record can be written
-pub record FitsPrefixRecord (rules : Rules) (add_path : Bool) (peers originated sequence : ℕ) (prefix : IpPrefix)
+pub record FitsPrefixRecord (rules : RouteRules) (add_path : Bool) (peers originated sequence : ℕ) (prefix : IpPrefix)
     (entries : List PrefixRoute) : Type 0 where
   pub time : originated < 256 ^ 4
   pub numbered : sequence < 256 ^ 4

@@ -12,7 +12,7 @@ use Rattle.bgp_update.specs.declared.kept_attribute.AttributeSet.{AttributeSet}
 use Rattle.bgp_update.specs.declared.kept_attribute.KeptAttribute.{KeptAttribute}
 use Rattle.bgp_update.specs.declared.kept_attribute.KeptAttribute.TheVariants.{Communities, ExtendedCommunities, LargeCommunities, OriginatorId, ClusterList, OnlyToCustomer}
 use Rattle.bgp_update.specs.KeptAttributes.{IsKeptValue, KeptValue, has, kept_code, kept_values, value_kept}
-use Rattle.bgp_update.specs.Families.{FamilyOf, Rules}
+use Rattle.bgp_update.specs.Families.{FamilyOf, RouteRules}
 use Rattle.bgp_update.specs.AttributeTypes.{type_code}
 use Rattle.bgp_update.specs.Equality.{origin_number}
 use Rattle.bgp_update.specs.Segments.{path_bytes}
@@ -144,7 +144,7 @@ pub record IsKeptBy (asked : AttributeSet) (kept : List KeptValue) : Type 0 wher
 -- The route can be an entry that is read by these rules: its numbers and its path have their widths, its next hop is
 -- one of the family's entries, the rules ask for what it keeps, and the attributes are no longer than the entry's
 -- length can say.
-pub record FitsEntryRoute (rules : Rules) (r : Route) : Type 0 where
+pub record FitsEntryRoute (rules : RouteRules) (r : Route) : Type 0 where
   pub packs : CanPack r
   pub hop : HasEntryHop rules.family.own_fields r.next_hop
   pub kept : IsKeptBy rules.kept r.kept

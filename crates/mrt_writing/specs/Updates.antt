@@ -8,7 +8,7 @@ use Rattle.bgp_update.specs.declared.attribute_type.AttributeType.{AttributeType
 use Rattle.bgp_update.specs.declared.next_hop.NextHop.{NextHop}
 use Rattle.bgp_update.specs.declared.route.Route.{Route}
 use Rattle.bgp_update.specs.declared.width.Width.TheVariants.{Four}
-use Rattle.bgp_update.specs.Families.{FamilyOf, Rules}
+use Rattle.bgp_update.specs.Families.{FamilyOf, RouteRules}
 use Rattle.bgp_update.specs.Attributes.{attributes_bytes}
 use Rattle.bgp_update.specs.Hops.{by_hop}
 use Rattle.bgp_update.specs.Packing.{CanPack}
@@ -59,7 +59,7 @@ abbrev pub message_body : PeerKey → List ℕ → List ℕ
 message_body p message = session_bytes Four (written_session p) ++ message
 
 -- The message can be written, and is read by these rules.
-pub record FitsUpdate (rules : Rules) (add_path : Bool) (key : RouteKey) (r : Route) : Type 0 where
+pub record FitsUpdate (rules : RouteRules) (add_path : Bool) (key : RouteKey) (r : Route) : Type 0 where
   pub packs : CanPack r
   pub kept : IsKeptBy rules.kept r.kept
   pub hop : NextHop

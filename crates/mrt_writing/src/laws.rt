@@ -6,7 +6,7 @@ ghost use Rattle.bgp_prefix.specs.Keys.{RouteKey};
 ghost use Rattle.bgp_prefix.specs.Prefixes.{IpPrefix, IsIpPrefix};
 ghost use Rattle.mrt_frame.specs.Cuts.{cuts, file_limit};
 ghost use Rattle.bgp_update.specs.Attributes.{route_in, attributes_bytes};
-ghost use Rattle.bgp_update.specs.Families.{FamilyOf, Rules, ipv4, ipv6};
+ghost use Rattle.bgp_update.specs.Families.{FamilyOf, RouteRules, Rules, by_entry_width, ipv4, ipv6, route_rules};
 ghost use Rattle.bgp_update.specs.Keys.{prefix_of};
 ghost use Rattle.bgp_update.specs.Updates.{update_bytes};
 ghost use Rattle.bgp_update.specs.declared.route.Route.{Route};
@@ -24,7 +24,7 @@ ghost use Rattle.peer_units.specs.declared.unit.PeerKey.{PeerKey};
 ghost use Rattle.mrt_body.specs.Indexes.{index_bytes, peers_in};
 ghost use Rattle.mrt_body.specs.RibDumps.{DumpsState};
 ghost use Rattle.mrt_body.specs.RibRecords.{entry_bytes, rib_bytes};
-ghost use Rattle.mrt_body.specs.Units.{rib_units_in, states_unit, session_unit, found_in_file};
+ghost use Rattle.mrt_body.specs.Units.{rib_units_in, state_units, states_unit, session_unit, found_in_file};
 ghost use Rattle.mrt_body.specs.declared.record_place.RecordAt.{RecordAt};
 ghost use Rattle.mrt_writing.specs.Dumps.{DumpRecord, index_record, dump_records, HasRibKinds, FitsDump, units_of_dump};
 ghost use Rattle.mrt_writing.specs.Heads.{written_index, FitsPeerKey, states_bytes};
@@ -36,7 +36,7 @@ ghost use Rattle.mrt_writing.specs.Updates.{written_update, update_field, update
 
 /// A route that fits is given back by reading its attributes as those of a RIB entry.
 pub fn written_routes_are_read()
-    ensures entries { (rules : Rules) (route : Route) → FitsEntryRoute rules route →
+    ensures entries { (rules : RouteRules) (route : Route) → FitsEntryRoute rules route →
         route_in rules Four (attributes_bytes (entry_attributes rules.family route)) ≡ Ok route }
 {}
 
@@ -62,19 +62,23 @@ pub fn written_bodies_are_read()
     ensures states { (rule : StateRule) (at : RecordAt) (p : PeerKey) (from to : ℕ) →
         FitsPeerKey p → from < 256 ^ 2 → to < 256 ^ 2 →
         states_unit rule at false Four (states_bytes p from to) ≡ Ok (session_unit at 0 p (State from to rule)) }
+    ensures told { (selection : UnitSelection) (known : List PeerKey) (at : RecordAt) (p : PeerKey) (from to : ℕ) →
+        FitsPeerKey p → from < 256 ^ 2 → to < 256 ^ 2 →
+        state_units selection known at false Four (states_bytes p from to)
+        ≡ Ok (session_unit at 0 p (State from to selection.states) ∷ []) }
     ensures rib { (rules : Rules) (at : RecordAt) (add_path : Bool) (peers : List PeerKey) (originated sequence : ℕ)
         (prefix : IpPrefix) (entries : List PrefixRoute) →
-        FitsPrefixRecord rules add_path (length peers) originated sequence prefix entries →
+        FitsPrefixRecord (route_rules rules) add_path (length peers) originated sequence prefix entries →
         rib_units_in rules at add_path (Some peers)
         (rib_bytes add_path (written_rib rules.family originated sequence prefix entries))
         ≡ Ok (units_of_entries rules at peers prefix 1 entries) }
-    ensures event { (rules : Rules) (key : RouteKey) (route : Route) → FitsEntryRoute rules route →
-        event_in (Entry rules key (entry_field rules.family route)) ≡ Ok (event.Rib key route) }
+    ensures event { (rules : Rules) (key : RouteKey) (route : Route) → FitsEntryRoute (route_rules rules) route →
+        event_in (Entry (by_entry_width Four rules) key (entry_field rules.family route)) ≡ Ok (event.Rib key route) }
 {}
 
 /// A key that an UPDATE of its own reaches is read with its route and next hop.
 pub fn written_updates_are_read()
-    ensures { (rules : Rules) (add_path : Bool) (key : RouteKey) (route : Route) → FitsUpdate rules add_path key route →
+    ensures { (rules : Rules) (add_path : Bool) (key : RouteKey) (route : Route) → FitsUpdate (route_rules rules) add_path key route →
         event_in (Message (update_message rules.family add_path key route) Four add_path rules)
         ≡ Ok (event.Change (reaching key route)) }
 {}
@@ -100,7 +104,7 @@ pub fn written_parts_are_whole()
 pub fn written_dumps_are_read()
     ensures dump { (file : ℕ) (selection : UnitSelection) (seconds : ℕ) (peers : List PeerKey) (dumps : DumpsState)
         (records : List DumpRecord) →
-        selection.ribs ≡ Add → dumps.heard ≡ [] → FitsDump selection.rules seconds peers records →
+        selection.ribs ≡ Add → dumps.heard ≡ [] → FitsDump (route_rules selection.rules) seconds peers records →
         length (records_bytes (dump_records selection.rules.family seconds peers records)) ≤ file_limit →
         found_in_file selection file dumps (records_bytes (dump_records selection.rules.family seconds peers records))
         ≡ map (λ (u : ReplayUnit). found.Unit u) (filter (is_selected selection)

@@ -7,9 +7,9 @@
 //! (`shares_keep_peers`).
 //!
 //! `Tables::retain` leaves the chosen routes of chosen prefixes alone, if any are named, before a report is made: an
-//! UPDATE that concerns a chosen prefix may have announced others, and units are taken whatever routes are chosen. Tables
-//! have nothing in common, so several workers share them, in halves (`retain_all`), and which thread does what makes no
-//! difference.
+//! UPDATE that concerns a chosen prefix may have announced others, and units are taken whatever routes are chosen.
+//! Tables have nothing in common, so several workers share them, in halves (`retain_all`), and which thread does what
+//! makes no difference.
 //!
 //! `Watches` passes each unit to the watch on its peer, and makes rows of what it did (`HistoryRows`), in the order of
 //! the units: one thread, no lanes. The watches are those of the units' peers (`watches_of`): each took its peer's own

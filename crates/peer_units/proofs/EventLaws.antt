@@ -6,9 +6,8 @@ use Rattle.mrt_frame.specs.Fields.{◌>>=◌}
 use Rattle.mrt_frame.proofs.FieldLaws.{IsBytes, IsBytes-drop}
 use Rattle.mrt_frame.proofs.Items.{bind_ok, ok_is}
 use Rattle.bgp_prefix.specs.Keys.{RouteKey}
-use Rattle.bgp_update.specs.Families.{Rules}
+use Rattle.bgp_update.specs.Families.{RouteRules, route_rules}
 use Rattle.bgp_update.specs.declared.width.Width.{Width}
-use Rattle.bgp_update.specs.declared.width.Width.TheVariants.{Four}
 use Rattle.bgp_update.specs.Attributes.{route_in}
 use Rattle.bgp_update.specs.Updates.{Update, update_in}
 use Rattle.bgp_update.proofs.UpdateLaws.{route_takes, route_again, update_takes, update_again}
@@ -25,7 +24,7 @@ use Rattle.peer_units.proofs.MessageLaws.{message_takes, message_again, other_fo
 abbrev done : {A : Type 0} → A → Result A Fault
 done x = Ok x
 
-module _ (rules : Rules) (width : Width) (add_path : Bool) (bytes : List ℕ) where
+module _ (rules : RouteRules) (width : Width) (add_path : Bool) (bytes : List ℕ) where
   abbrev event_of : ℕ → List ℕ → Bool → Result Event Fault
   event_of kind body is_update = cond is_update (update_in rules width add_path body >>= λ update. Ok (event.Change update)) (Ok event.Other)
 
@@ -65,24 +64,24 @@ module _ (rules : Rules) (width : Width) (add_path : Bool) (bytes : List ℕ) wh
 pub event_takes : (payload : Payload) (e : Event) → IsBytes (payload_bytes payload) → event_in payload ≡ Ok e → IsEvent payload e
 unfolding event_in
 event_takes (State from to rule) e fine given = sym (ok_is (event.State from to rule) e given)
-event_takes (Message bytes width add_path rules) e fine given = message_event_takes rules width add_path bytes e fine given
+event_takes (Message bytes width add_path rules) e fine given = message_event_takes (route_rules rules) width add_path bytes e fine given
 event_takes (Entry rules key attrs) e fine given =
-    let r = bind_ok (route_in rules Four attrs) (λ route. Ok (event.Rib key route)) e given in
-    subst (IsEntryEvent rules key attrs) (ok_is (event.Rib key r.0) e r.2) (refl, route_takes rules Four attrs r.0 fine r.1)
+    let r = bind_ok (route_in (route_rules rules) rules.entry_width attrs) (λ route. Ok (event.Rib key route)) e given in
+    subst (IsEntryEvent (route_rules rules) rules.entry_width key attrs) (ok_is (event.Rib key r.0) e r.2) (refl, route_takes (route_rules rules) rules.entry_width attrs r.0 fine r.1)
 event_takes Clear e fine given = sym (ok_is event.Clear e given)
 
-entry_again : (rules : Rules) (key : RouteKey) (attrs : List ℕ) (e : Event) → IsEntryEvent rules key attrs e → (route_in rules Four attrs >>= λ route. done (event.Rib key route)) ≡ Ok e
-entry_again rules key attrs (event.Rib other route) h = rw (route_again rules Four attrs route h.1) (ap (λ (k : RouteKey). done (event.Rib k route)) (sym h.0))
-entry_again rules key attrs (event.Change update) h = absurd h
-entry_again rules key attrs (event.State old new rule) h = absurd h
-entry_again rules key attrs event.Other h = absurd h
-entry_again rules key attrs event.Clear h = absurd h
+entry_again : (rules : RouteRules) (width : Width) (key : RouteKey) (attrs : List ℕ) (e : Event) → IsEntryEvent rules width key attrs e → (route_in rules width attrs >>= λ route. done (event.Rib key route)) ≡ Ok e
+entry_again rules width key attrs (event.Rib other route) h = rw (route_again rules width attrs route h.1) (ap (λ (k : RouteKey). done (event.Rib k route)) (sym h.0))
+entry_again rules width key attrs (event.Change update) h = absurd h
+entry_again rules width key attrs (event.State old new rule) h = absurd h
+entry_again rules width key attrs event.Other h = absurd h
+entry_again rules width key attrs event.Clear h = absurd h
 
 pub event_again : (payload : Payload) (e : Event) → IsEvent payload e → event_in payload ≡ Ok e
 unfolding event_in
 event_again (State from to rule) e h = ap (λ (x : Event). done x) (sym h)
-event_again (Message bytes width add_path rules) e h = message_event_again rules width add_path bytes e h
-event_again (Entry rules key attrs) e h = entry_again rules key attrs e h
+event_again (Message bytes width add_path rules) e h = message_event_again (route_rules rules) width add_path bytes e h
+event_again (Entry rules key attrs) e h = entry_again (route_rules rules) rules.entry_width key attrs e h
 event_again Clear e h = ap (λ (x : Event). done x) (sym h)
 
 pub one_event : (payload : Payload) (e other : Event) → IsEvent payload e → IsEvent payload other → e ≡ other
@@ -98,7 +97,7 @@ route_told : (key : RouteKey) (r : Result Route Fault) → is_recorded_event (r 
 route_told key (Ok route) = refl
 route_told key (Err fault) = refl
 
-message_told : (rules : Rules) (width : Width) (add_path : Bool) (r : Result (ℕ × List ℕ) Fault) → is_recorded_event (r >>= λ m. cond (eqb m.0 UPDATE) (update_in rules width add_path m.1 >>= λ update. Ok (event.Change update)) (Ok event.Other)) ≡ true
+message_told : (rules : RouteRules) (width : Width) (add_path : Bool) (r : Result (ℕ × List ℕ) Fault) → is_recorded_event (r >>= λ m. cond (eqb m.0 UPDATE) (update_in rules width add_path m.1 >>= λ update. Ok (event.Change update)) (Ok event.Other)) ≡ true
 message_told rules width add_path (Err fault) = refl
 message_told rules width add_path (Ok m) =
     elim (eqb m.0 UPDATE) as (λ b. is_recorded_event (cond b (update_in rules width add_path m.1 >>= λ update. Ok (event.Change update)) (Ok event.Other)) ≡ true) [
@@ -109,6 +108,6 @@ message_told rules width add_path (Ok m) =
 pub recorded_told : (payload : Payload) → is_recorded_event (event_in payload) ≡ is_recorded payload
 unfolding event_in message_event_in
 recorded_told (State from to rule) = refl
-recorded_told (Message bytes width add_path rules) = message_told rules width add_path (message_in bytes)
-recorded_told (Entry rules key attrs) = route_told key (route_in rules Four attrs)
+recorded_told (Message bytes width add_path rules) = message_told (route_rules rules) width add_path (message_in bytes)
+recorded_told (Entry rules key attrs) = route_told key (route_in (route_rules rules) rules.entry_width attrs)
 recorded_told Clear = refl

@@ -12,9 +12,8 @@ use Rattle.mrt_frame.specs.declared.fault.Fault.TheVariants.{BadMarker, BadLengt
 use Rattle.mrt_frame.proofs.FieldLaws.{IsBytes, IsBytes-drop, two_bytes}
 use Rattle.mrt_frame.proofs.Items.{ok_is}
 use Rattle.bgp_prefix.specs.Keys.{RouteKey}
-use Rattle.bgp_update.specs.Families.{Rules}
+use Rattle.bgp_update.specs.Families.{RouteRules}
 use Rattle.bgp_update.specs.declared.width.Width.{Width}
-use Rattle.bgp_update.specs.declared.width.Width.TheVariants.{Four}
 use Rattle.bgp_update.specs.declared.attr_error.AttrError.{AttrError}
 use Rattle.bgp_update.specs.declared.attr_error.AttrError.TheVariants as errors
 use Rattle.bgp_update.specs.declared.route.Route.{Route}
@@ -95,7 +94,7 @@ same_message bytes kind other body rest read spelled small =
     let same : (kind, body) ≡ (other, rest) = ok_is (kind, body) (other, rest) again in
     (ap (λ (x : ℕ × List ℕ). x.0) same, ap (λ (x : ℕ × List ℕ). x.1) same)
 
-module _ (rules : Rules) (width : Width) (add_path : Bool) (bytes : List ℕ) where
+module _ (rules : RouteRules) (width : Width) (add_path : Bool) (bytes : List ℕ) where
   pub no_event : (fault : Fault) → message_in bytes ≡ Err fault → (e : Event) → IsMessageEvent rules width add_path bytes e → done e ≡ Err fault
   no_event fault read (event.Change update) h = ok_never _ fault (sym (ap message_in h.1 ∙ message_again UPDATE h.0 h.2) ∙ read)
   no_event fault read event.Other h = ok_never _ fault (sym (ap message_in h.3 ∙ message_again h.0 h.1 h.4) ∙ read)
@@ -135,8 +134,8 @@ module _ (rules : Rules) (width : Width) (add_path : Bool) (bytes : List ℕ) wh
 
 -- ---- the event of an entry
 
-pub entry_given : (rules : Rules) (key : RouteKey) (attrs : List ℕ) (r : Result Route AttrError) → ((route : Route) → ReadsAsRoute rules Four attrs route → Gives (λ x. x) r (Ok route)) → (e : Event) → IsEntryEvent rules key attrs e → Gives (λ route. event.Rib key route) r (Ok e)
-entry_given rules key attrs (Ok route) only (event.Rib other said) h = let same = only said h.1 in let key_is = h.0 in cc
-entry_given rules key attrs (Err errors.Memory) only (event.Rib other said) h = tt
-entry_given rules key attrs (Err (errors.Bad fault)) only (event.Rib other said) h = let same = only said h.1 in absurd cc
-entry_given rules key attrs r only e h = absurd h
+pub entry_given : (rules : RouteRules) (width : Width) (key : RouteKey) (attrs : List ℕ) (r : Result Route AttrError) → ((route : Route) → ReadsAsRoute rules width attrs route → Gives (λ x. x) r (Ok route)) → (e : Event) → IsEntryEvent rules width key attrs e → Gives (λ route. event.Rib key route) r (Ok e)
+entry_given rules width key attrs (Ok route) only (event.Rib other said) h = let same = only said h.1 in let key_is = h.0 in cc
+entry_given rules width key attrs (Err errors.Memory) only (event.Rib other said) h = tt
+entry_given rules width key attrs (Err (errors.Bad fault)) only (event.Rib other said) h = let same = only said h.1 in absurd cc
+entry_given rules width key attrs r only e h = absurd h

@@ -11,8 +11,12 @@ use Rattle.peer_units.specs.Plain.{PrefixChoice}
 use Rattle.peer_units.specs.declared.choice.PeerChoice.{PeerChoice}
 use Rattle.peer_units.specs.declared.rib_rule.RibRule.{RibRule}
 use Rattle.peer_units.specs.declared.rib_rule.RibRule.TheVariants.{Add}
+use Rattle.peer_units.specs.declared.state_peers.StatePeers.{StatePeers}
+use Rattle.peer_units.specs.declared.state_peers.StatePeers.TheVariants as peers
 use Rattle.peer_units.specs.declared.state_rule.StateRule.{StateRule}
 use Rattle.peer_units.specs.declared.state_rule.StateRule.TheVariants.{Recorded}
+use Rattle.peer_units.specs.declared.table_dump_rule.TableDumpRule.{TableDumpRule}
+use Rattle.peer_units.specs.declared.table_dump_rule.TableDumpRule.TheVariants.{Aside}
 use Rattle.peer_units.specs.declared.unit.PeerAddr.{PeerAddr}
 use Rattle.peer_units.specs.declared.unit.PeerAddr.TheVariants.{V4, V6}
 use Rattle.peer_units.specs.declared.unit.PeerKey.{PeerKey}
@@ -23,15 +27,18 @@ pub record PeerShare : Type 0 where
   pub count : ℕ
 
 -- what is asked for: up to this second, the prefixes and the peers that these take, or all where there are none, and
--- the peers of this share; by which rules state changes and further RIB dumps are taken; by which messages and entries
--- are read; and which routes of the tables are chosen in the end
+-- the peers of this share; by which rules state changes are taken, and whose they are; by which rules further RIB dumps
+-- and TABLE_DUMP records are taken; by which messages and entries are read; and which routes of the tables are chosen in
+-- the end
 pub record UnitSelection : Type 0 where
   pub until : Option ℕ
   pub prefixes : List PrefixChoice
   pub peers : List PeerChoice
   pub share : Option PeerShare
   pub states : StateRule
+  pub state_peers : StatePeers
   pub ribs : RibRule
+  pub table_dumps : TableDumpRule
   pub rules : Rules
   pub routes : RouteChoice
 
@@ -56,7 +63,9 @@ all_of rules = record {
   peers = [];
   share = None;
   states = Recorded;
+  state_peers = peers.Recorded;
   ribs = Add;
+  table_dumps = Aside;
   rules = rules;
   routes = every_route;
 }

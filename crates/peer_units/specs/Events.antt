@@ -6,9 +6,8 @@ use Rattle.bgp_prefix.specs.Keys.{RouteKey}
 use Rattle.mrt_frame.specs.declared.fault.Fault.{Fault}
 use Rattle.mrt_frame.specs.declared.fault.Fault.TheVariants.{BadMarker, BadLength}
 use Rattle.mrt_frame.specs.Fields.{◌>>=◌}
-use Rattle.bgp_update.specs.Families.{Rules}
+use Rattle.bgp_update.specs.Families.{RouteRules, route_rules}
 use Rattle.bgp_update.specs.declared.width.Width.{Width}
-use Rattle.bgp_update.specs.declared.width.Width.TheVariants.{Four}
 use Rattle.bgp_update.specs.Attributes.{ReadsAsRoute, route_in}
 use Rattle.bgp_update.specs.Updates.{ReadsAsUpdate, update_in}
 use Rattle.bgp_update.specs.Packing.{IsWritable}
@@ -33,7 +32,7 @@ abbrev pub UPDATE : ℕ
 UPDATE = 2
 
 -- A message is an UPDATE with its reading, or of another type, which isn't read.
-abbrev pub IsMessageEvent : Rules → Width → Bool → List ℕ → Event → Type 0
+abbrev pub IsMessageEvent : RouteRules → Width → Bool → List ℕ → Event → Type 0
 IsMessageEvent rules width add_path bytes (event.Change update) =
     (body : List ℕ)
     × (bytes ≡ message_bytes UPDATE body)
@@ -49,19 +48,19 @@ IsMessageEvent rules width add_path bytes (event.State old new rule) = ⊥
 IsMessageEvent rules width add_path bytes (event.Rib key route) = ⊥
 IsMessageEvent rules width add_path bytes event.Clear = ⊥
 
--- a RIB entry's attributes are read with four-octet AS numbers (RFC 6396, 4.3.4)
-abbrev pub IsEntryEvent : Rules → RouteKey → List ℕ → Event → Type 0
-IsEntryEvent rules key attrs (event.Rib other route) = (other ≡ key) × ReadsAsRoute rules Four attrs route
-IsEntryEvent rules key attrs (event.Change update) = ⊥
-IsEntryEvent rules key attrs (event.State old new rule) = ⊥
-IsEntryEvent rules key attrs event.Other = ⊥
-IsEntryEvent rules key attrs event.Clear = ⊥
+-- a RIB entry's attributes are read with AS numbers of this width (RFC 6396, 4.2 and 4.3.4)
+abbrev pub IsEntryEvent : RouteRules → Width → RouteKey → List ℕ → Event → Type 0
+IsEntryEvent rules width key attrs (event.Rib other route) = (other ≡ key) × ReadsAsRoute rules width attrs route
+IsEntryEvent rules width key attrs (event.Change update) = ⊥
+IsEntryEvent rules width key attrs (event.State old new rule) = ⊥
+IsEntryEvent rules width key attrs event.Other = ⊥
+IsEntryEvent rules width key attrs event.Clear = ⊥
 
 -- the event of a payload, by the rules that it has
 abbrev pub IsEvent : Payload → Event → Type 0
 IsEvent (State from to rule) e = e ≡ event.State from to rule
-IsEvent (Message bytes width add_path rules) e = IsMessageEvent rules width add_path bytes e
-IsEvent (Entry rules key attrs) e = IsEntryEvent rules key attrs e
+IsEvent (Message bytes width add_path rules) e = IsMessageEvent (route_rules rules) width add_path bytes e
+IsEvent (Entry rules key attrs) e = IsEntryEvent (route_rules rules) rules.entry_width key attrs e
 IsEvent Clear e = e ≡ event.Clear
 
 -- the path of the event's route, if it has one, can be written with four-octet AS numbers
@@ -82,16 +81,16 @@ message_in bytes =
     (if big_number 2 (drop 16 bytes) == length bytes then Ok (slice_index bytes 18, drop 19 bytes) else Err BadLength)
     else Err BadMarker)
 
-unfoldable pub message_event_in : Rules → Width → Bool → List ℕ → Result Event Fault
+unfoldable pub message_event_in : RouteRules → Width → Bool → List ℕ → Result Event Fault
 message_event_in rules width add_path bytes = message_in bytes >>= λ m.
     if m.0 == UPDATE then (update_in rules width add_path m.1 >>= λ update. Ok (event.Change update)) else
     Ok event.Other
 
-abbrev pub entry_event_in : Rules → RouteKey → List ℕ → Result Event Fault
-entry_event_in rules key attrs = route_in rules Four attrs >>= λ route. Ok (event.Rib key route)
+abbrev pub entry_event_in : RouteRules → Width → RouteKey → List ℕ → Result Event Fault
+entry_event_in rules width key attrs = route_in rules width attrs >>= λ route. Ok (event.Rib key route)
 
 unfoldable pub event_in : Payload → Result Event Fault
 event_in (State from to rule) = Ok (event.State from to rule)
-event_in (Message bytes width add_path rules) = message_event_in rules width add_path bytes
-event_in (Entry rules key attrs) = entry_event_in rules key attrs
+event_in (Message bytes width add_path rules) = message_event_in (route_rules rules) width add_path bytes
+event_in (Entry rules key attrs) = entry_event_in (route_rules rules) rules.entry_width key attrs
 event_in Clear = Ok event.Clear

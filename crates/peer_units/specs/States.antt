@@ -1,7 +1,8 @@
 -- What state changes say of a session (RFC 4271, 8.2.2; RFC 6396, 4.4.1), by the rule that is asked for.
 use Rattle.std.specs.Prelude.{⊤, ◌≡◌, ℕ, Bool, true, not, ◌&&◌, List, Option, Some, None, ◌==◌, if◌then◌else◌}
 use Rattle.std.specs.List.{All}
-use Rattle.bgp_update.specs.Families.{Rules}
+use Rattle.bgp_update.specs.Families.{Rules, by_entry_width}
+use Rattle.bgp_update.specs.declared.width.Width.{Width}
 use Rattle.peer_units.specs.declared.state_rule.StateRule.{StateRule}
 use Rattle.peer_units.specs.declared.state_rule.StateRule.TheVariants.{Recorded, Established}
 use Rattle.peer_units.specs.Plain.{Payload}
@@ -44,11 +45,11 @@ IsByRule rule Clear = ⊤
 abbrev pub AreByRule : StateRule → List ReplayUnit → Type 0
 AreByRule rule units = All (λ unit. IsByRule rule unit.payload) units
 
--- a payload that, if it is a message or an entry, is read by these rules
+-- a payload that is read by these rules, if it is a message, or an entry with AS numbers of some width
 abbrev pub IsReadBy : Rules → Payload → Type 0
 IsReadBy rules (State from to rule) = ⊤
 IsReadBy rules (Message bytes width add_path others) = others ≡ rules
-IsReadBy rules (Entry others key attrs) = others ≡ rules
+IsReadBy rules (Entry others key attrs) = (width : Width) × (others ≡ by_entry_width width rules)
 IsReadBy rules Clear = ⊤
 
 -- units whose messages and entries are all read by these rules

@@ -4,7 +4,9 @@ ghost use Rattle.std.specs.Prelude.{◌≡◌, [], ◌∷◌, ◌++◌, List, If
 ghost use Rattle.bgp_prefix.specs.Keys.{RouteKey as Key};
 ghost use Rattle.bgp_update.specs.Decoded.{IsGrown};
 ghost use Rattle.peer_units.specs.DecodedEvents.{IsEventAt, IsOneMore, event_at};
+ghost use Rattle.bgp_update.specs.Families.{route_rules};
 ghost use Rattle.bgp_update.specs.Values.{plain_rules};
+ghost use Rattle.bgp_update.specs.declared.width.Width.TheVariants.{Four};
 ghost use Rattle.peer_units.specs.Events.{entry_event_in, event_in, message_event_in};
 
 use crate::event_ref::EventRef;
@@ -77,7 +79,7 @@ fn decode_asked_message<F: Unicast>(
     add_path: bool,
 ) -> Result<DecodedEvent<Prefix<F>>, Memory>
     ensures means { IfOk result (λ event. event_at keys.new.items bytes.new.items event
-        ≡ message_event_in rules width add_path message.now) }
+        ≡ message_event_in (route_rules rules) width add_path message.now) }
     ensures there { IfOk result (IsEventAt keys.new.items bytes.new.items) }
     ensures keys { OnOk result (IsGrown keys.old.items keys.new.items) }
     ensures bytes { OnOk result (IsGrown bytes.old.items bytes.new.items) }
@@ -130,7 +132,7 @@ fn keep_entry<F: Unicast>(
     attrs: &[u8],
 ) -> Result<(), Memory>
     ensures kept { OnOk result ((keys : List Key) → IsOneMore keys bytes.old.items events.old.items
-        keys bytes.new.items events.new.items (entry_event_in (plain_rules F.family) key attrs.now)) }
+        keys bytes.new.items events.new.items (entry_event_in (plain_rules F.family) Four key attrs.now)) }
     ensures none { OnErr result (events.new.items ≡ []) }
 {
     match decode_entry::<F>(alloc, bytes, attrs, Width::Four) {
@@ -154,10 +156,10 @@ fn keep_asked_entry<F: Unicast>(
     attrs: &[u8],
 ) -> Result<(), Memory>
     ensures kept { OnOk result ((keys : List Key) → IsOneMore keys bytes.old.items events.old.items
-        keys bytes.new.items events.new.items (entry_event_in rules key attrs.now)) }
+        keys bytes.new.items events.new.items (entry_event_in (route_rules rules) rules.entry_width key attrs.now)) }
     ensures none { OnErr result (events.new.items ≡ []) }
 {
-    match decode_asked_entry::<F>(alloc, bytes, kept, attrs, rules.kept(), Width::Four) {
+    match decode_asked_entry::<F>(alloc, bytes, kept, attrs, rules.kept(), rules.entry_width()) {
         Ok(route) => keep(events, DecodedEvent::Rib { key, route }),
         Err(AttrError::Bad(fault)) => keep(events, DecodedEvent::Damaged(fault)),
         Err(AttrError::Memory) => {

@@ -2,6 +2,7 @@
 
 ghost use Rattle.std.specs.Prelude.{◌≡◌, IfOk, Ok};
 ghost use Rattle.bgp_prefix.specs.Prefixes.{IpPrefix};
+ghost use Rattle.bgp_update.specs.Families.{route_rules};
 ghost use Rattle.bgp_update.specs.Results.{Gives};
 ghost use Rattle.peer_units.specs.Events.{IsEvent, IsMessageEvent, IsWritableEvent, event_in, message_event_in};
 
@@ -25,9 +26,9 @@ fn message_event<F: Unicast>(
     width: Width,
     add_path: bool,
 ) -> Result<Event<Prefix<F>>, AttrError>
-    ensures found { IfOk result (IsMessageEvent rules width add_path bytes.now) }
-    ensures only { (e : Event IpPrefix) → IsMessageEvent rules width add_path bytes.now e → Gives (λ e. e) result (Ok e) }
-    ensures exact { Gives (λ e. e) result (message_event_in rules width add_path bytes.now) }
+    ensures found { IfOk result (IsMessageEvent (route_rules rules) width add_path bytes.now) }
+    ensures only { (e : Event IpPrefix) → IsMessageEvent (route_rules rules) width add_path bytes.now e → Gives (λ e. e) result (Ok e) }
+    ensures exact { Gives (λ e. e) result (message_event_in (route_rules rules) width add_path bytes.now) }
     ensures writable { IfOk result IsWritableEvent }
 {
     let kept = rules.kept();
@@ -81,7 +82,7 @@ fn whole_event<F: Unicast>(
             rules,
         } => message_event(alloc, *rules, bytes.as_slice(), *width, *add_path),
         Payload::Entry { key, attrs, rules } => {
-            match read_attrs::<F>(alloc, attrs.as_slice(), rules.kept(), Width::Four) {
+            match read_attrs::<F>(alloc, attrs.as_slice(), rules.kept(), rules.entry_width()) {
                 Ok(route) => Ok(Event::Rib(*key, route)),
                 Err(error) => Err(error),
             }

@@ -33,7 +33,9 @@ mod payload_bytes;
 mod rib_rule;
 mod selection;
 mod share;
+mod state_peers;
 mod state_rule;
+mod table_dump_rule;
 mod unit;
 mod unit_ref;
 
@@ -49,7 +51,9 @@ pub use payload_bytes::PayloadBytes;
 pub use rib_rule::RibRule;
 pub use selection::Selection;
 pub use share::Share;
+pub use state_peers::StatePeers;
 pub use state_rule::StateRule;
+pub use table_dump_rule::TableDumpRule;
 pub use unit::{
     Damage, Found, FoundOf, Payload, PayloadOf, PeerAddr, PeerKey, Place, Unit, UnitOf,
 };

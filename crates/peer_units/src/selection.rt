@@ -14,7 +14,9 @@ use crate::decoded_events::DecodedEvents;
 use crate::event_ref::EventRef;
 use crate::rib_rule::RibRule;
 use crate::share::Share;
+use crate::state_peers::StatePeers;
 use crate::state_rule::StateRule;
+use crate::table_dump_rule::TableDumpRule;
 use crate::unit::{Payload, PeerKey};
 use crate::unit_ref::{PayloadRef, UnitRef};
 use bgp_prefix::{Memory, Prefix, RouteKey};
@@ -25,8 +27,8 @@ use std::marker::Model;
 
 /// Which of the units that records give are returned: those that meet each criterion. Any other unit is
 /// skipped, as if no record gave it. Refused records, index tables and the counts of records are the same
-/// for each selection. It also says by which rules state changes and further RIB dumps are taken, and messages and
-/// entries read; and which routes of the tables are chosen in the end.
+/// for each selection. It also says whose state changes are, by which rules these, further RIB dumps and TABLE_DUMP
+/// records are taken, and messages and entries read; and which routes of the tables are chosen in the end.
 #[derive(Debug, Drop)]
 pub struct Selection<F: Unicast = u32> {
     /// The last second of which units are returned, in seconds since 1970 UTC. A unit is skipped if the
@@ -42,8 +44,12 @@ pub struct Selection<F: Unicast = u32> {
     share: Option<Share>,
     /// The rule by which state changes are taken. It makes no difference to which units are returned.
     states: StateRule,
+    /// Whose state a state change is.
+    state_peers: StatePeers,
     /// What a further RIB dump does to the routes before it.
     ribs: RibRule,
+    /// What is done with TABLE_DUMP records.
+    table_dumps: TableDumpRule,
     /// By which rules messages and entries are read.
     rules: Rules<F>,
 }
@@ -59,7 +65,9 @@ impl<F: Unicast> Model for Selection<F> {
       peers = s.peers.items;
       share = s.share;
       states = s.states;
+      state_peers = s.state_peers;
       ribs = s.ribs;
+      table_dumps = s.table_dumps;
       rules = s.rules;
       routes = s.chosen.routes;
     } };
@@ -136,7 +144,9 @@ impl<F: Unicast> Selection<F> {
             peers: Vec::new(alloc),
             share: None,
             states: StateRule::Recorded,
+            state_peers: StatePeers::Recorded,
             ribs: RibRule::Add,
+            table_dumps: TableDumpRule::Aside,
             rules: Rules::new(AttributeSet::none()),
         }
     }
@@ -181,11 +191,27 @@ impl<F: Unicast> Selection<F> {
         self
     }
 
+    /// Returns the same selection, with state changes of the peers of this rule.
+    pub fn by_state_peers(mut self, state_peers: StatePeers) -> Selection<F>
+        ensures { result ≡ record self { state_peers = state_peers } }
+    {
+        self.state_peers = state_peers;
+        self
+    }
+
     /// Returns the same selection, with further RIB dumps taken by this rule.
     pub fn by_ribs(mut self, ribs: RibRule) -> Selection<F>
         ensures { result ≡ record self { ribs = ribs } }
     {
         self.ribs = ribs;
+        self
+    }
+
+    /// Returns the same selection, with TABLE_DUMP records taken by this rule.
+    pub fn by_table_dumps(mut self, table_dumps: TableDumpRule) -> Selection<F>
+        ensures { result ≡ record self { table_dumps = table_dumps } }
+    {
+        self.table_dumps = table_dumps;
         self
     }
 
@@ -223,11 +249,25 @@ impl<F: Unicast> Selection<F> {
         self.ribs
     }
 
+    /// What is done with TABLE_DUMP records.
+    pub fn table_dumps(&self) -> TableDumpRule
+        ensures { result ≡ self.now.table_dumps }
+    {
+        self.table_dumps
+    }
+
     /// The rule by which state changes are taken.
     pub fn states(&self) -> StateRule
         ensures { result ≡ self.now.states }
     {
         self.states
+    }
+
+    /// Whose state a state change is.
+    pub fn state_peers(&self) -> StatePeers
+        ensures { result ≡ self.now.state_peers }
+    {
+        self.state_peers
     }
 
     /// The prefixes that are chosen.

@@ -3,7 +3,7 @@
 use fixtures::{Dripping, THREE_PEERS, Zeros, bytes_of};
 use mrt_body::{Lent, Units};
 use mrt_frame::{Counted, Failures, ReplayError, Source};
-use peer_units::{Found, Payload, RibRule, Selection};
+use peer_units::{Found, Payload, RibRule, Selection, TableDumpRule};
 use std::alloc::Global;
 use std::io::ErrorKind;
 use std::process::Abort;
@@ -53,14 +53,17 @@ fn expect_answers<R: Source>(
     }
 }
 
-/// The units of so many files, up to this number of records. RIB dumps replace what came before them.
+/// The units of so many files, up to this number of records. RIB dumps replace what came before them, and TABLE_DUMP
+/// records are read.
 fn units_of(rt: &impl Abort, alloc: Global, files: usize, most: u64) -> Units {
     assert!(rt; 0 < most && most <= 1000);
     Units::new(
         alloc,
         files,
         most,
-        Selection::all(alloc).by_ribs(RibRule::Replace),
+        Selection::all(alloc)
+            .by_ribs(RibRule::Replace)
+            .by_table_dumps(TableDumpRule::Read),
     )
 }
 
@@ -139,11 +142,12 @@ fn a_failed_read_comes_behind_the_whole_records(rt: HostRuntime) -> Result<(), F
 /// One growth may be refused: each answer is that with ample memory, or wants memory, and then the units are spent.
 #[test]
 fn a_refused_growth_spends_the_units(rt: HostRuntime) -> Result<(), Fail> {
-    let records = "announcement peer-index-table rib-record peer-index-table rib-record";
+    let records =
+        "announcement peer-index-table rib-record table-dump-entry table-dump peer-index-table rib-record";
     let bytes = bytes_of(rt.alloc(), records)?;
     let mut files = [Counted::new(bytes.as_slice())];
     let mut units = units_of(&rt, rt.alloc(), 1, 1000);
-    for expected in "ucuuccuu..".chars() {
+    for expected in "ucuuurcccuu..".chars() {
         match next_letter(&rt, rt.alloc(), &mut units, &mut files) {
             'M' => {
                 expect_answers(&rt, rt.alloc(), &mut units, &mut files, "SS");

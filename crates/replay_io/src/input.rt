@@ -15,6 +15,7 @@ use bgp_prefix::Memory;
 use command_line::{AddressFamily, FirstBytes, Kind, Records};
 use mrt_frame::Counted;
 use packed_io::{Format, PackedFault, PackedFiles, PackedReader, Pieces, Unpacked};
+use peer_units::TableDumpRule;
 use std::io::{self, Read};
 
 /// How many bytes four blocks of bzip2 have, packed, more or less.
@@ -30,10 +31,10 @@ struct Watch<'a> {
 }
 
 impl<'a> Watch<'a> {
-    fn new(rt: &HostRuntime, family: AddressFamily, board: Option<&'a Board>) -> Watch<'a> {
+    fn new(rt: &HostRuntime, watched: Watched<'a>) -> Watch<'a> {
         Watch {
-            records: Records::new(rt.alloc(), family),
-            board,
+            records: Records::new(rt.alloc(), watched.family, watched.table_dumps),
+            board: watched.board,
             bytes: 0,
         }
     }
@@ -62,6 +63,8 @@ impl<'a> Watch<'a> {
 pub struct Watched<'a> {
     /// The family of the routes that are read.
     pub family: AddressFamily,
+    /// What is done with TABLE_DUMP records.
+    pub table_dumps: TableDumpRule,
     /// The files that are read.
     pub files: &'a Files,
     /// Where units are counted, if records are.
@@ -198,7 +201,7 @@ impl<'a, D: Read + Drop> Dump<'a, D> {
         ensures { dump_contents result ≡ contents.entry }
     {
         let watch = if watched.is_any() {
-            Some(Watch::new(rt, watched.family, watched.board))
+            Some(Watch::new(rt, watched))
         } else {
             None
         };

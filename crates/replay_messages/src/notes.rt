@@ -1,8 +1,8 @@
 //! Notes on the dumps of a complete run, on standard error: what about them is likely not meant. A note is a line that
 //! begins with two spaces and `note: `; no report and no status depends on it.
 
-use command_line::{AddressFamily, FileName};
-use mrt_body::Marked;
+use command_line::{AddressFamily, FileName, RecordKind};
+use mrt_body::{Marked, RecordType, Unread};
 use peer_units::{PeerAddr, PeerKey, RibRule};
 use replay_io::Input;
 use replay_summary::{Idle, Summary};
@@ -180,6 +180,49 @@ fn names_of_families(family: AddressFamily) -> (&'static str, &'static str) {
     }
 }
 
+/// Returns the note on TABLE_DUMP records that were set aside.
+fn table_dumps_note(
+    alloc: Global,
+    table_dumps: &Marked,
+    inputs: &[Input<'_, '_>],
+) -> Result<String, AllocError> {
+    let records = table_dumps.records();
+    let names = names_of(alloc, table_dumps, inputs)?;
+    Ok(format!(in alloc;
+        "no RIB record but those of TABLE_DUMP, which aren't read: {records}, in {names}; --table-dump read takes them"
+    )?)
+}
+
+/// Returns the names of a type and a subtype.
+fn type_text(alloc: Global, record_type: RecordType) -> Result<String, AllocError> {
+    let RecordType { kind, subtype } = record_type;
+    let kind = RecordKind { kind, subtype };
+    Ok(format!(in alloc; "{kind}")?)
+}
+
+/// Returns the note on records of types that aren't read.
+fn unread_note(
+    alloc: Global,
+    unread: &Unread,
+    inputs: &[Input<'_, '_>],
+) -> Result<String, AllocError> {
+    let mut types = Names::new(alloc);
+    for record_type in unread.first_types() {
+        if let Some(record_type) = record_type {
+            types.add(type_text(alloc, *record_type)?.as_str())?;
+        }
+    }
+    if unread.has_others() {
+        types.text.push_str(" and others")?;
+    }
+    let records = unread.records().records();
+    let names = names_of(alloc, unread.records(), inputs)?;
+    let types = types.text;
+    Ok(format!(in alloc;
+        "no unit, and records of types that aren't read: {records}, in {names}, of {types}"
+    )?)
+}
+
 /// Returns the notes on a run, in their order.
 fn notes_of(
     alloc: Global,
@@ -201,6 +244,12 @@ fn notes_of(
             "no RIB record of {asked} routes, and {records} of {other} routes, which aren't read: {names}"
         )?)?;
     }
+    if remarks.ribs == 0 && remarks.table_dumps.records() > 0 {
+        notes.push(table_dumps_note(alloc, &remarks.table_dumps, inputs)?)?;
+    }
+    if summary.units == 0 && remarks.unread.records().records() > 0 {
+        notes.push(unread_note(alloc, &remarks.unread, inputs)?)?;
+    }
     let (empty, early) = order_notes(alloc, inputs)?;
     if let Some(note) = empty {
         notes.push(note)?;
@@ -221,7 +270,7 @@ fn notes_of(
     Ok(notes)
 }
 
-/// Reports what is remarkable about the dumps. Without memory for it nothing is.
+/// Reports what is remarkable about the dumps, or that there is no memory for it.
 pub fn tell_notes(
     rt: &HostRuntime,
     summary: &Summary,
@@ -229,9 +278,14 @@ pub fn tell_notes(
     ribs: RibRule,
     inputs: &[Input<'_, '_>],
 ) {
-    if let Ok(notes) = notes_of(rt.alloc(), summary, family, ribs, inputs) {
-        for note in &notes {
-            let _ = eprintln!(rt; "  note: {note}");
+    match notes_of(rt.alloc(), summary, family, ribs, inputs) {
+        Ok(notes) => {
+            for note in &notes {
+                let _ = eprintln!(rt; "  note: {note}");
+            }
+        }
+        Err(_) => {
+            let _ = eprintln!(rt; "  note: notes are missing, since memory ran out");
         }
     }
 }

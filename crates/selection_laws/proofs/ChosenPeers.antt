@@ -12,8 +12,9 @@ use Rattle.peer_units.specs.Choices.{UnitSelection}
 use Rattle.peer_units.specs.Selections.{concerns, is_in_time, is_selected, takes_peer}
 use Rattle.mrt_body.specs.declared.record_place.RecordAt.{RecordAt}
 use Rattle.mrt_body.specs.declared.body_kind.BodyKind.{BodyKind}
-use Rattle.mrt_body.specs.RibDumps.{DumpsState, dumps_with, heard_of, no_dumps}
-use Rattle.mrt_body.specs.Units.{at_record, begins, body_kind_of, clear_unit, clears_at, clears_if, dumps_after, found_at, found_of, found_units, is_extended, is_index_content, selected_units, units_in, units_of, units_or_none}
+use Rattle.mrt_body.specs.KnownPeers.{known_with}
+use Rattle.mrt_body.specs.RibDumps.{DumpsState, heard_of, no_dumps}
+use Rattle.mrt_body.specs.Units.{at_record, begins, body_kind_of, clear_unit, clears_at, clears_if, dumps_after, dumps_behind, dumps_told, found_at, found_of, found_units, is_extended, is_index_content, peers_named, selected_units, units_in, units_of, units_or_none}
 use Rattle.selection_laws.specs.Wider.{of_all_peers}
 use Rattle.selection_laws.proofs.Filters.{as_found, filter_twice, keeps, keeps_found}
 use Rattle.selection_laws.proofs.HeardPeers.{Rise, heard_kept, rise_of}
@@ -47,6 +48,7 @@ module _ (narrow : UnitSelection) where
     pub heard : a.heard ≡ filter takes b.heard
     pub begun : a.begun ≡ b.begun
     pub rise : Rise b.heard
+    pub known : a.known ≡ b.known
 
   record_kept : (at : RecordAt) (read : Result (List ReplayUnit) Fault) → found_of at (selected_units narrow read) ≡ filter (keeps keep) (found_of at (selected_units wide read))
   record_kept at (Ok units) = ap (map as_found) (selected units) ∙ sym (keeps_found keep (filter (is_selected wide) units))
@@ -79,9 +81,11 @@ module _ (narrow : UnitSelection) where
   cut_kept file index a b (Whole r) alike =
       let at : RecordAt = at_record file r.offset r.seconds in
       let kind : BodyKind = body_kind_of narrow.rules.family r.kind r.subtype in
-      let read : Result (List ReplayUnit) Fault = units_in narrow.rules narrow.states at (is_extended r.kind) index kind r.body in
+      let read : Result (List ReplayUnit) Fault = units_in narrow a.known at (is_extended r.kind) index kind r.body in
       (λ i. (ap (map as_found) (clears_same at index a b kind r.body alike) ∙ sym (keeps_found keep (clears_at wide at index b kind r.body))) i ++ record_kept at read i)
       ∙ sym (filter-append (keeps keep) (map as_found (clears_at wide at index b kind r.body)) (found_units wide at read))
+      ∙ ap (λ (r' : Result (List ReplayUnit) Fault). filter (keeps keep) (map as_found (clears_at wide at index b kind r.body) ++ found_units wide at r'))
+      (narrowed.read_alike narrow [] None narrow.prefixes a b at (is_extended r.kind) index kind r.body alike.known)
   cut_kept file index a b (Broken offset fault) alike = refl
 
   start_kept : (begun : Bool) (a b : List PeerKey) → a ≡ filter takes b → (if begun then [] else a) ≡ filter takes (if begun then [] else b)
@@ -92,9 +96,9 @@ module _ (narrow : UnitSelection) where
   start_rises true heard rise = tt
   start_rises false heard rise = rise
 
-  alike_with : (begun : Bool) (a b : DumpsState) (read : Result (List ReplayUnit) Fault) → Alike a b →
-      Alike (dumps_with narrow.ribs begun a (units_or_none (selected_units narrow read))) (dumps_with narrow.ribs begun b (units_or_none (selected_units wide read)))
-  alike_with begun a b read alike =
+  alike_with : (begun : Bool) (a b : DumpsState) (named : List PeerKey) (read : Result (List ReplayUnit) Fault) → Alike a b →
+      Alike (dumps_told narrow begun a named read) (dumps_told wide begun b named read)
+  alike_with begun a b named read alike =
       let start : List PeerKey = if begun then [] else b.heard in
       let rises : Rise start = start_rises begun b.heard alike.rise in
       record {
@@ -103,24 +107,29 @@ module _ (narrow : UnitSelection) where
             ∙ heard_kept takes narrow.ribs start (units_or_none (selected_units wide read)) rises;
         begun = ap (λ (x : Bool). begun || x) alike.begun;
         rise = rise_of narrow.ribs start (units_or_none (selected_units wide read)) rises;
+        known = ap (λ (k : List PeerKey). known_with narrow.state_peers k named) alike.known;
       }
 
   alike_if : (index : Bool) (a b : DumpsState) → Alike a b → Alike (if index then record a { begun = false } else a) (if index then record b { begun = false } else b)
-  alike_if true a b alike = record { heard = alike.heard; begun = refl; rise = alike.rise }
+  alike_if true a b alike = record { heard = alike.heard; begun = refl; rise = alike.rise; known = alike.known }
   alike_if false a b alike = alike
 
   alike_after : (file : ℕ) (index : Option (List PeerKey)) (a b : DumpsState) (cut : Cut) → Alike a b → Alike (dumps_after file narrow index a cut) (dumps_after file wide index b cut)
   alike_after file index a b (Whole r) alike =
       let at : RecordAt = at_record file r.offset r.seconds in
       let kind : BodyKind = body_kind_of narrow.rules.family r.kind r.subtype in
-      let read : Result (List ReplayUnit) Fault = units_in narrow.rules narrow.states at (is_extended r.kind) index kind r.body in
-      alike_if (is_index_content kind) _ _
-      (subst (λ (begun : Bool). Alike (dumps_with narrow.ribs begun a (units_or_none (selected_units narrow read))) (dumps_with narrow.ribs (begins wide at index b kind r.body) b (units_or_none (selected_units wide read))))
-      (sym (narrowed.begins_same narrow [] None narrow.prefixes at index a b kind r.body alike.begun)) (alike_with (begins wide at index b kind r.body) a b read alike))
+      let read : Result (List ReplayUnit) Fault = units_in narrow a.known at (is_extended r.kind) index kind r.body in
+      let named : List PeerKey = peers_named kind r.body read in
+      let begun : Bool = begins narrow at index a kind r.body in
+      subst (λ (r' : Result (List ReplayUnit) Fault). Alike (dumps_behind narrow begun a kind r.body read) (dumps_behind wide (begins wide at index b kind r.body) b kind r.body r'))
+      (narrowed.read_alike narrow [] None narrow.prefixes a b at (is_extended r.kind) index kind r.body alike.known)
+      (alike_if (is_index_content kind) (dumps_told narrow begun a named read) (dumps_told wide (begins wide at index b kind r.body) b named read)
+      (subst (λ (x : Bool). Alike (dumps_told narrow x a named read) (dumps_told wide (begins wide at index b kind r.body) b named read))
+      (sym (narrowed.begins_same narrow [] None narrow.prefixes at index a b kind r.body alike.begun)) (alike_with (begins wide at index b kind r.body) a b named read alike)))
   alike_after file index a b (Broken offset fault) alike = alike
 
   alike_first : Alike no_dumps no_dumps
-  alike_first = record { heard = refl; begun = refl; rise = tt }
+  alike_first = record { heard = refl; begun = refl; rise = tt; known = refl }
 
   pub peers_kept : (files : List (List ℕ)) → units_of narrow files ≡ filter keep (units_of wide files)
   peers_kept = narrowed.units_kept narrow [] None narrow.prefixes keep Alike cut_kept alike_after alike_first

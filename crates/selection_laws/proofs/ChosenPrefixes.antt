@@ -64,6 +64,7 @@ module _ (narrow : UnitSelection) (added : narrow.ribs ≡ Add) where
   begins_none selection at index dumps content.IndexTable body add = refl
   begins_none selection at index dumps (content.Message width add_path) body add = refl
   begins_none selection at index dumps (content.States width) body add = refl
+  begins_none selection at index dumps content.OldEntry body add = refl
   begins_none selection at index dumps content.Aside body add = refl
 
   clears_none : (selection : UnitSelection) (at : RecordAt) (index : Option (List PeerKey)) (dumps : DumpsState) (kind : BodyKind) (body : List ℕ) → selection.ribs ≡ Add →
@@ -71,7 +72,7 @@ module _ (narrow : UnitSelection) (added : narrow.ribs ≡ Add) where
   clears_none selection at index dumps kind body add = ap (λ (b : Bool). clears_if b at dumps.heard) (begins_none selection at index dumps kind body add)
 
   abbrev Alike : DumpsState → DumpsState → Type 0
-  Alike a b = Unit {0}
+  Alike a b = a.known ≡ b.known
 
   cut_kept : (file : ℕ) (index : Option (List PeerKey)) (a b : DumpsState) (cut : Cut) → Alike a b →
       found_at file narrow index a cut ≡ filter (keeps keep) (found_at file wide index b cut)
@@ -79,11 +80,13 @@ module _ (narrow : UnitSelection) (added : narrow.ribs ≡ Add) where
   cut_kept file index a b (Whole r) alike =
       let at : RecordAt = at_record file r.offset r.seconds in
       let kind : BodyKind = body_kind_of narrow.rules.family r.kind r.subtype in
-      let read : Result (List ReplayUnit) Fault = units_in narrow.rules narrow.states at (is_extended r.kind) index kind r.body in
+      let read : Result (List ReplayUnit) Fault = units_in narrow a.known at (is_extended r.kind) index kind r.body in
       ap (λ (clears : List ReplayUnit). map as_found clears ++ found_units narrow at read) (clears_none narrow at index a kind r.body added)
       ∙ record_kept at read
       ∙ sym (ap (λ (clears : List ReplayUnit). filter (keeps keep) (map as_found clears ++ found_units wide at read)) (clears_none wide at index b kind r.body added))
+      ∙ ap (λ (r' : Result (List ReplayUnit) Fault). filter (keeps keep) (map as_found (clears_at wide at index b kind r.body) ++ found_units wide at r'))
+      (narrowed.read_alike narrow narrow.peers narrow.share [] a b at (is_extended r.kind) index kind r.body alike)
   cut_kept file index a b (Broken offset fault) alike = refl
 
   pub prefixes_kept : (files : List (List ℕ)) → units_of narrow files ≡ filter keep (units_of wide files)
-  prefixes_kept = narrowed.units_kept narrow narrow.peers narrow.share [] keep Alike cut_kept (λ file index a b cut alike. tt) tt
+  prefixes_kept = narrowed.units_kept narrow narrow.peers narrow.share [] keep Alike cut_kept (narrowed.known_after narrow narrow.peers narrow.share []) refl

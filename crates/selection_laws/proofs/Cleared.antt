@@ -24,7 +24,7 @@ use Rattle.mrt_body.specs.declared.record_place.RecordAt.{RecordAt}
 use Rattle.mrt_body.specs.declared.body_kind.BodyKind.{BodyKind}
 use Rattle.mrt_body.specs.declared.body_kind.BodyKind.TheVariants as content
 use Rattle.mrt_body.specs.RibDumps.{DumpsState, dumps_with, hear, heard_of, no_dumps, peer_cmp, replaces}
-use Rattle.mrt_body.specs.Units.{at_record, begins, body_kind_of, clear_unit, clears_if, dumps_after, dumps_behind, dumps_behind_cuts, found_at, found_from, found_in, found_in_file, found_in_files, found_units, index_after, index_before, is_extended, is_index_content, selected_units, unit_of, units_in, units_of, units_or_none}
+use Rattle.mrt_body.specs.Units.{at_record, begins, body_kind_of, clear_unit, clears_if, dumps_after, dumps_behind, dumps_behind_cuts, dumps_told, peers_named, found_at, found_from, found_in, found_in_file, found_in_files, found_units, index_after, index_before, is_extended, is_index_content, selected_units, unit_of, units_in, units_of, units_or_none}
 use Rattle.mrt_body.proofs.IndexLaws.{found_from-is, found_in_file-is}
 use Rattle.adj_rib.specs.Steps.{steps_of}
 use Rattle.adj_rib.specs.Tables.{table_of}
@@ -155,10 +155,10 @@ module _ (selection : UnitSelection) (replace : selection.ribs ≡ Replace) wher
       let at : RecordAt = at_record file r.offset r.seconds in
       let kind : BodyKind = body_kind_of selection.rules.family r.kind r.subtype in
       let begun : Bool = begins selection at index dumps kind r.body in
-      let read : Result (List ReplayUnit) Fault = units_in selection.rules selection.states at (is_extended r.kind) index kind r.body in
+      let read : Result (List ReplayUnit) Fault = units_in selection dumps.known at (is_extended r.kind) index kind r.body in
       let more : List ReplayUnit = units_or_none (selected_units selection read) in
-      subst (λ (us : List ReplayUnit). Tracks (dumps_behind selection begun dumps kind read) (units ++ us)) (sym (record_units selection at (clears_if begun at dumps.heard) read))
-      (tracks_if (is_index_content kind) (dumps_with selection.ribs begun dumps more) (units ++ (clears_if begun at dumps.heard ++ more)) (tracks_with selection.ribs begun at dumps units more replace tracks))
+      subst (λ (us : List ReplayUnit). Tracks (dumps_behind selection begun dumps kind r.body read) (units ++ us)) (sym (record_units selection at (clears_if begun at dumps.heard) read))
+      (tracks_if (is_index_content kind) (dumps_told selection begun dumps (peers_named kind r.body read) read) (units ++ (clears_if begun at dumps.heard ++ more)) (tracks_with selection.ribs begun at dumps units more replace tracks))
   tracks_cut file index dumps units (Broken offset fault) tracks = λ q none. ap (λ (us : List ReplayUnit). table_of_peer us q) (append-nil units) ∙ tracks q none
 
   pub tracks_cuts : (file : ℕ) (index : Option (List PeerKey)) (dumps : DumpsState) (units : List ReplayUnit) (earlier : List Cut) → Tracks dumps units →
@@ -208,6 +208,7 @@ begins_where selection at index dumps (content.Rib add_path) body e = replaces_o
 begins_where selection at index dumps content.IndexTable body e = absurd cc
 begins_where selection at index dumps (content.Message width add_path) body e = absurd cc
 begins_where selection at index dumps (content.States width) body e = absurd cc
+begins_where selection at index dumps content.OldEntry body e = absurd cc
 begins_where selection at index dumps content.Aside body e = absurd cc
 
 pub none_left : (selection : UnitSelection) (files : List (List ℕ)) (earlier : List Cut) (r : Record) (q : PeerKey) → begins_dump selection files earlier r ≡ true →
@@ -246,7 +247,7 @@ reading_begins selection files bytes others earlier later r e =
     let index : Option (List PeerKey) = index_before selection.rules.family earlier in
     let kind : BodyKind = body_kind_of selection.rules.family r.kind r.subtype in
     let clears : List ReplayUnit = clears_before selection files earlier r in
-    let own : List Found = found_units selection at (units_in selection.rules selection.states at (is_extended r.kind) index kind r.body) in
+    let own : List Found = found_units selection at (units_in selection (dumps_before selection files earlier).known at (is_extended r.kind) index kind r.body) in
     let rest : List Found = flat_map_after given (earlier ++ Whole r ∷ []) later in
     let behind : List Found = found_in_files selection (file + 1) (dumps_behind_cuts file selection None start (cuts 0 bytes)) others in
     let before : List Found = found_in_files selection 0 no_dumps files in

@@ -20,8 +20,8 @@ use Rattle.peer_units.specs.Choices.{UnitSelection}
 use Rattle.peer_units.specs.Selections.{concerns}
 use Rattle.mrt_body.specs.declared.record_place.RecordAt.{RecordAt}
 use Rattle.mrt_body.specs.declared.body_kind.BodyKind.{BodyKind}
-use Rattle.mrt_body.specs.RibDumps.{DumpsState, dumps_with, no_dumps}
-use Rattle.mrt_body.specs.Units.{at_record, begins, body_kind_of, clear_unit, clears_if, dumps_after, dumps_behind_cuts, found_at, found_from, found_in, found_in_file, found_in_files, index_after, is_extended, is_index_content, selected_units, unit_of, units_in, units_of, units_or_none}
+use Rattle.mrt_body.specs.RibDumps.{DumpsState, no_dumps}
+use Rattle.mrt_body.specs.Units.{at_record, begins, body_kind_of, clear_unit, clears_if, dumps_after, dumps_behind_cuts, dumps_told, found_at, found_from, found_in, found_in_file, found_in_files, index_after, is_extended, is_index_content, peers_named, selected_units, unit_of, units_in, units_of, units_or_none}
 use Rattle.mrt_body.proofs.IndexLaws.{found_in_file-is}
 use Rattle.adj_rib.specs.Steps.{Step, is_established, is_up, last_said, state_says, steps_of, unit_steps}
 use Rattle.adj_rib.specs.Tables.{route_at, said_of, table_of}
@@ -35,7 +35,7 @@ use Rattle.selection_laws.specs.Wider.{of_all_prefixes}
 use Rattle.selection_laws.proofs.ChosenPrefixes.{selected_late}
 use Rattle.selection_laws.proofs.Cleared.{Tracks, all_cleared, begins_where, no_units, record_units, tracks_cut}
 use Rattle.selection_laws.proofs.Filters.{filter_twice}
-use Rattle.selection_laws.proofs.Narrowed.{begins_same}
+use Rattle.selection_laws.proofs.Narrowed.{begins_same, known_after, read_alike}
 
 -- ---- what further units make of two lists of units
 
@@ -170,6 +170,7 @@ module _ (narrow : UnitSelection) (q : PeerKey) where
   -- what the units so far, and the dumps, have in common
   record Beside (us vs : List ReplayUnit) (a b : DumpsState) : Type 0 where
     pub begun : a.begun ≡ b.begun
+    pub known : a.known ≡ b.known
     pub tracks : narrow.ribs ≡ Replace → Tracks a us
     pub wide_tracks : narrow.ribs ≡ Replace → Tracks b vs
     pub alike : Alike picks (filter is_own us) (filter is_early vs)
@@ -220,14 +221,17 @@ module _ (narrow : UnitSelection) (q : PeerKey) where
       let kind : BodyKind = body_kind_of narrow.rules.family r.kind r.subtype in
       let begun : Bool = begins narrow at index a kind r.body in
       let wide_begun : Bool = begins wide at index b kind r.body in
-      let read : Result (List ReplayUnit) Fault = units_in narrow.rules narrow.states at (is_extended r.kind) index kind r.body in
+      let read : Result (List ReplayUnit) Fault = units_in narrow a.known at (is_extended r.kind) index kind r.body in
+      let again : Result (List ReplayUnit) Fault = units_in wide b.known at (is_extended r.kind) index kind r.body in
+      let alike : read ≡ again = read_alike narrow narrow.peers narrow.share [] a b at (is_extended r.kind) index kind r.body beside.known in
       let more : List ReplayUnit = units_or_none (selected_units narrow read) in
       let others : List ReplayUnit = units_or_none (selected_units wide read) in
       let same : begun ≡ wide_begun = begins_same narrow narrow.peers narrow.share [] at index a b kind r.body beside.begun in
       subst (λ (units : List ReplayUnit). Alike picks (filter is_own (us ++ units)) (filter is_early (behind_cut wide file index b vs (Whole r)))) (sym (record_units narrow at (clears_if begun at a.heard) read))
-      (subst (λ (units : List ReplayUnit). Alike picks (filter is_own (us ++ (clears_if begun at a.heard ++ more))) (filter is_early (vs ++ units))) (sym (record_units wide at (clears_if wide_begun at b.heard) read))
+      (subst (λ (units : List ReplayUnit). Alike picks (filter is_own (us ++ (clears_if begun at a.heard ++ more))) (filter is_early (vs ++ units))) (sym (record_units wide at (clears_if wide_begun at b.heard) again))
+      (subst (λ (r' : Result (List ReplayUnit) Fault). Alike picks (filter is_own (us ++ (clears_if begun at a.heard ++ more))) (filter is_early (vs ++ (clears_if wide_begun at b.heard ++ units_or_none (selected_units wide r'))))) alike
       (subst (λ (x : Bool). Alike picks (filter is_own (us ++ (clears_if begun at a.heard ++ more))) (filter is_early (vs ++ (clears_if x at b.heard ++ others)))) same
-      (alike_record begun at us vs a b read (λ e. begins_where narrow at index a kind r.body e) beside)))
+      (alike_record begun at us vs a b read (λ e. begins_where narrow at index a kind r.body e) beside))))
   cut_alike file index us vs a b (Broken offset fault) beside =
       subst (λ (units : List ReplayUnit). Alike picks (filter is_own units) (filter is_early (vs ++ []))) (sym (append-nil us))
       (subst (λ (units : List ReplayUnit). Alike picks (filter is_own us) (filter is_early units)) (sym (append-nil vs)) beside.alike)
@@ -236,9 +240,10 @@ module _ (narrow : UnitSelection) (q : PeerKey) where
   begun_same file index a b (Whole r) same =
       let at : RecordAt = at_record file r.offset r.seconds in
       let kind : BodyKind = body_kind_of narrow.rules.family r.kind r.subtype in
-      let read : Result (List ReplayUnit) Fault = units_in narrow.rules narrow.states at (is_extended r.kind) index kind r.body in
-      begun_if (is_index_content kind) (dumps_with narrow.ribs (begins narrow at index a kind r.body) a (units_or_none (selected_units narrow read)))
-      (dumps_with narrow.ribs (begins wide at index b kind r.body) b (units_or_none (selected_units wide read)))
+      let read : Result (List ReplayUnit) Fault = units_in narrow a.known at (is_extended r.kind) index kind r.body in
+      let again : Result (List ReplayUnit) Fault = units_in wide b.known at (is_extended r.kind) index kind r.body in
+      begun_if (is_index_content kind) (dumps_told narrow (begins narrow at index a kind r.body) a (peers_named kind r.body read) read)
+      (dumps_told wide (begins wide at index b kind r.body) b (peers_named kind r.body again) again)
       (λ i. begins_same narrow narrow.peers narrow.share [] at index a b kind r.body same i || same i)
   begun_same file index a b (Broken offset fault) same = same
 
@@ -246,6 +251,7 @@ module _ (narrow : UnitSelection) (q : PeerKey) where
       Beside (behind_cut narrow file index a us cut) (behind_cut wide file index b vs cut) (dumps_after file narrow index a cut) (dumps_after file wide index b cut)
   beside_cut file index us vs a b cut beside = record {
     begun = begun_same file index a b cut beside.begun;
+    known = known_after narrow narrow.peers narrow.share [] file index a b cut beside.known;
     tracks = λ replace. tracks_cut narrow replace file index a us cut (beside.tracks replace);
     wide_tracks = λ replace. tracks_cut wide replace file index b vs cut (beside.wide_tracks replace);
     alike = cut_alike file index us vs a b cut beside;
@@ -292,7 +298,7 @@ module _ (narrow : UnitSelection) (q : PeerKey) where
       (files_alike (file + 1) (us ++ filter_map unit_of here) (vs ++ filter_map unit_of there) a_then b_then files first))
 
   at_start : Beside [] [] no_dumps no_dumps
-  at_start = record { begun = refl; tracks = λ replace. no_units narrow replace; wide_tracks = λ replace. no_units wide replace; alike = record { says = λ says. refl; routes = λ k picked. refl } }
+  at_start = record { begun = refl; known = refl; tracks = λ replace. no_units narrow replace; wide_tracks = λ replace. no_units wide replace; alike = record { says = λ says. refl; routes = λ k picked. refl } }
 
   reading_alike : (files : List (List ℕ)) → Alike picks (units_of_peer (units_of narrow files) q) (filter is_early (units_of wide files))
   unfolding units_of found_in

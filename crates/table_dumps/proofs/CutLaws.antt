@@ -7,7 +7,8 @@ use Rattle.std.proofs.lemmas.List.{map-append}
 use Rattle.std.proofs.lemmas.List.Elements.{filter-append, All-filter}
 use Rattle.mrt_frame.specs.Cuts.{cuts}
 use Rattle.bgp_prefix.specs.Prefixes.{IpPrefix}
-use Rattle.bgp_update.specs.Families.{Rules}
+use Rattle.bgp_update.specs.declared.width.Width.TheVariants.{Four}
+use Rattle.bgp_update.specs.Families.{Rules, by_entry_width, route_rules}
 use Rattle.peer_units.specs.declared.state_rule.StateRule.{StateRule}
 use Rattle.peer_units.specs.declared.state_rule.StateRule.TheVariants.{Recorded, Established}
 use Rattle.peer_units.specs.declared.unit.PeerKey.{PeerKey}
@@ -143,7 +144,7 @@ module _ (rules : Rules) (rule : StateRule) (file seconds : ℕ) (keys : List Pe
   abbrev IsDated : ReplayUnit → Type 0
   IsDated u = u.time ≡ seconds * 1000000 + 0
 
-  entries_dated : (offset : ℕ) (prefix : IpPrefix) (number : ℕ) (entries : List PrefixRoute) → AllByRecursion IsDated (units_of_entries rules (at_record file offset seconds) keys prefix number entries)
+  entries_dated : (offset : ℕ) (prefix : IpPrefix) (number : ℕ) (entries : List PrefixRoute) → AllByRecursion IsDated (units_of_entries (by_entry_width Four rules) (at_record file offset seconds) keys prefix number entries)
   entries_dated offset prefix number [] = tt
   entries_dated offset prefix number (e ∷ entries) = (refl, entries_dated offset prefix (number + 1) entries)
 
@@ -206,8 +207,8 @@ module _ (selection : UnitSelection) (files : List (List ℕ)) (h : CanBeCut sel
   abbrev bytes : List ℕ
   bytes = checkpoint_bytes selection first_units
 
-  fits : FitsDump rules seconds (keys_of peers) (records_for peers)
-  fits = dump_fits rules seconds peers (seconds_small first_units) h.fits.tables
+  fits : FitsDump (route_rules rules) seconds (keys_of peers) (records_for peers)
+  fits = dump_fits (route_rules rules) seconds peers (seconds_small first_units) h.fits.tables
 
   keys_are : keys_of peers ≡ peers_of first_units
   keys_are = keys_back rule first_units (peers_of first_units)
@@ -220,7 +221,7 @@ module _ (selection : UnitSelection) (files : List (List ℕ)) (h : CanBeCut sel
       each written (all_dated rules rule 0 seconds (keys_of peers) start (records_for peers)) (all_listed rules rule 0 seconds (keys_of peers) (record_split rules.family) start peers refl fits.each)
     where
       taken : AllByRecursion (IsTaken selection) first_units
-      taken = units_taken selection h.added files
+      taken = units_taken selection h.added h.recorded files
 
       each : (units : List ReplayUnit) → AllByRecursion (IsDated rules rule 0 seconds (keys_of peers)) units → AllByRecursion (λ u. list_any (λ (q : PeerKey). peer_eq q u.peer) (keys_of peers) ≡ true) units → AllByRecursion (IsTaken selection) units
       each [] d l = tt
@@ -239,7 +240,7 @@ module _ (selection : UnitSelection) (files : List (List ℕ)) (h : CanBeCut sel
       ∙ units_back (filter (is_selected selection) written) ∙ filter_all (is_selected selection) written all_taken
 
   alone : units_of selection (bytes ∷ []) ≡ written
-  alone = units_first selection h.added bytes [] ∙ append-nil (filter_map unit_of (found_in_file selection 0 no_dumps bytes)) ∙ found_written
+  alone = units_first selection h.added h.recorded bytes [] ∙ append-nil (filter_map unit_of (found_in_file selection 0 no_dumps bytes)) ∙ found_written
 
   written_by : AreByRule rule written
   written_by = subst (AreByRule rule) alone (units_by selection (bytes ∷ []))
@@ -254,7 +255,7 @@ module _ (selection : UnitSelection) (files : List (List ℕ)) (h : CanBeCut sel
   own_by q units k = All-filter (λ (u : ReplayUnit). peer_eq u.peer q) (λ (u : ReplayUnit). IsByRule rule u.payload) units k
 
   abbrev Fit : List DumpedPeer → Type 0
-  Fit ps = AllByRecursion (FitsDumpRecord rules seconds (keys_of ps)) (records_for ps)
+  Fit ps = AllByRecursion (FitsDumpRecord (route_rules rules) seconds (keys_of ps)) (records_for ps)
 
   listed_alike : (q : PeerKey) → Stands (peers_of first_units) q → LeaveAlike (own q written) (own q first_units)
   listed_alike q s =
@@ -285,19 +286,19 @@ module _ (selection : UnitSelection) (files : List (List ℕ)) (h : CanBeCut sel
 
   module _ (more : List (List ℕ)) where
     abbrev later : List ReplayUnit
-    later = later_units selection h.added 1 (dumps_behind_cuts 0 selection None no_dumps (cuts 0 bytes)) more
+    later = later_units selection h.added h.recorded 1 (dumps_behind_cuts 0 selection None no_dumps (cuts 0 bytes)) more
 
-    both : (n : ℕ) × (d : DumpsState) × (d.heard ≡ []) × (units_of selection (files ++ more) ≡ first_units ++ later_units selection h.added n d more)
-    both = units_both selection h.added files more
+    both : (n : ℕ) × (d : DumpsState) × (d.heard ≡ []) × (units_of selection (files ++ more) ≡ first_units ++ later_units selection h.added h.recorded n d more)
+    both = units_both selection h.added h.recorded files more
 
     abbrev others : List ReplayUnit
-    others = later_units selection h.added both.0 both.1 more
+    others = later_units selection h.added h.recorded both.0 both.1 more
 
     same_others : map forget later ≡ map forget others
-    same_others = others_alike selection h.added bytes both.0 both.1 more both.2
+    same_others = others_alike selection h.added h.recorded bytes both.0 both.1 more both.2
 
     resumed : resumed_units selection files more ≡ written ++ later
-    resumed = units_first selection h.added bytes more ∙ ap (λ (l : List ReplayUnit). l ++ later) found_written
+    resumed = units_first selection h.added h.recorded bytes more ∙ ap (λ (l : List ReplayUnit). l ++ later) found_written
 
     cut_peers : peers_of (resumed_units selection files more) ≡ peers_of (units_of selection (files ++ more))
     cut_peers =

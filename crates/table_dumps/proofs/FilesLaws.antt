@@ -11,6 +11,7 @@ use Rattle.peer_units.specs.declared.unit.PeerKey.{PeerKey}
 use Rattle.peer_units.specs.Plain.{Found, Unit as ReplayUnit}
 use Rattle.peer_units.specs.Choices.{UnitSelection}
 use Rattle.peer_units.specs.Selections.{is_selected}
+use Rattle.peer_units.specs.declared.state_peers.StatePeers.TheVariants.{Recorded}
 use Rattle.mrt_body.specs.RibDumps.{DumpsState, no_dumps}
 use Rattle.mrt_body.specs.Units.{at_record, units_in, found_at, found_from, found_in_file, found_in_files, found_in, unit_of, units_of, body_kind_of, is_extended, index_after, dumps_after, dumps_behind_cuts, begins}
 use Rattle.mrt_body.proofs.IndexLaws.{found_in_file-is}
@@ -19,7 +20,7 @@ use Rattle.table_dumps.specs.Resuming.{forget}
 use Rattle.table_dumps.proofs.FitLaws.{all_both}
 use Rattle.table_dumps.proofs.PlaceLaws.{kept, forget_read, said, said-append, whole_said, files_alike}
 
-module _ (selection : UnitSelection) (add : selection.ribs ≡ Add) where
+module _ (selection : UnitSelection) (add : selection.ribs ≡ Add) (recorded : selection.state_peers ≡ Recorded) where
   -- ---- no peer is heard
 
   after_none : (file : ℕ) (index : Option (List PeerKey)) (dumps : DumpsState) (cut : Cut) → dumps.heard ≡ [] → (dumps_after file selection index dumps cut).heard ≡ []
@@ -27,7 +28,7 @@ module _ (selection : UnitSelection) (add : selection.ribs ≡ Add) where
   after_none file index dumps (Whole r) e =
       let at = at_record file r.offset r.seconds in
       let k = body_kind_of selection.rules.family r.kind r.subtype in
-      behind_none selection (begins selection at index dumps k r.body) dumps k (units_in selection.rules selection.states at (is_extended r.kind) index k r.body) add e
+      behind_none selection (begins selection at index dumps k r.body) dumps k r.body (units_in selection dumps.known at (is_extended r.kind) index k r.body) add e
 
   cuts_none : (file : ℕ) (index : Option (List PeerKey)) (dumps : DumpsState) (cs : List Cut) → dumps.heard ≡ [] → (dumps_behind_cuts file selection index dumps cs).heard ≡ []
   cuts_none file index dumps [] e = e
@@ -50,14 +51,14 @@ module _ (selection : UnitSelection) (add : selection.ribs ≡ Add) where
       )
 
   pub lists_alike : (file other : ℕ) (dumps others : DumpsState) (files : List (List ℕ)) → dumps.heard ≡ [] → others.heard ≡ []
-      → said selection add (found_in_files selection file dumps files) ≡ said selection add (found_in_files selection other others files)
+      → said selection add recorded (found_in_files selection file dumps files) ≡ said selection add recorded (found_in_files selection other others files)
   lists_alike file other dumps others [] e f = refl
   lists_alike file other dumps others (bytes ∷ files) e f =
       let next = dumps_behind_cuts file selection None dumps (cuts 0 bytes) in
       let next' = dumps_behind_cuts other selection None others (cuts 0 bytes) in
-      said-append selection add (found_in_file selection file dumps bytes) (found_in_files selection (file + 1) next files)
-      ∙ (λ i. files_alike selection add file other dumps others bytes e f i ++ lists_alike (file + 1) (other + 1) next next' files (cuts_none file None dumps (cuts 0 bytes) e) (cuts_none other None others (cuts 0 bytes) f) i)
-      ∙ sym (said-append selection add (found_in_file selection other others bytes) (found_in_files selection (other + 1) next' files))
+      said-append selection add recorded (found_in_file selection file dumps bytes) (found_in_files selection (file + 1) next files)
+      ∙ (λ i. files_alike selection add recorded file other dumps others bytes e f i ++ lists_alike (file + 1) (other + 1) next next' files (cuts_none file None dumps (cuts 0 bytes) e) (cuts_none other None others (cuts 0 bytes) f) i)
+      ∙ sym (said-append selection add recorded (found_in_file selection other others bytes) (found_in_files selection (other + 1) next' files))
 
   -- ---- all units are selected
 
@@ -76,28 +77,28 @@ module _ (selection : UnitSelection) (add : selection.ribs ≡ Add) where
   kept_taken (Ok units) = filter_taken units
   kept_taken (Err fault) = tt
 
-  at_taken : (file : ℕ) (index : Option (List PeerKey)) (dumps : DumpsState) (cut : Cut) → dumps.heard ≡ [] → AllByRecursion IsTaken (said selection add (found_at file selection index dumps cut))
+  at_taken : (file : ℕ) (index : Option (List PeerKey)) (dumps : DumpsState) (cut : Cut) → dumps.heard ≡ [] → AllByRecursion IsTaken (said selection add recorded (found_at file selection index dumps cut))
   unfolding found_at
   at_taken file index dumps (Broken offset fault) e = tt
   at_taken file index dumps (Whole r) e =
-      subst (AllByRecursion IsTaken) (sym (whole_said selection add file index dumps r.offset r.seconds r.kind r.subtype r.body e))
-      (kept_taken (forget_read (units_in selection.rules selection.states (at_record file r.offset r.seconds) (is_extended r.kind) index (body_kind_of selection.rules.family r.kind r.subtype) r.body)))
+      subst (AllByRecursion IsTaken) (sym (whole_said selection add recorded file index dumps r.offset r.seconds r.kind r.subtype r.body e))
+      (kept_taken (forget_read (units_in selection dumps.known (at_record file r.offset r.seconds) (is_extended r.kind) index (body_kind_of selection.rules.family r.kind r.subtype) r.body)))
 
-  from_taken : (file : ℕ) (index : Option (List PeerKey)) (dumps : DumpsState) (cs : List Cut) → dumps.heard ≡ [] → AllByRecursion IsTaken (said selection add (found_from file selection index dumps cs))
+  from_taken : (file : ℕ) (index : Option (List PeerKey)) (dumps : DumpsState) (cs : List Cut) → dumps.heard ≡ [] → AllByRecursion IsTaken (said selection add recorded (found_from file selection index dumps cs))
   from_taken file index dumps [] e = tt
   from_taken file index dumps (cut ∷ cs) e =
       let next = found_from file selection (index_after selection.rules.family index cut) (dumps_after file selection index dumps cut) cs in
-      subst (AllByRecursion IsTaken) (sym (said-append selection add (found_at file selection index dumps cut) next))
-      (all_both IsTaken (said selection add (found_at file selection index dumps cut)) (said selection add next) (at_taken file index dumps cut e)
+      subst (AllByRecursion IsTaken) (sym (said-append selection add recorded (found_at file selection index dumps cut) next))
+      (all_both IsTaken (said selection add recorded (found_at file selection index dumps cut)) (said selection add recorded next) (at_taken file index dumps cut e)
       (from_taken file (index_after selection.rules.family index cut) (dumps_after file selection index dumps cut) cs (after_none file index dumps cut e)))
 
-  files_taken : (file : ℕ) (dumps : DumpsState) (files : List (List ℕ)) → dumps.heard ≡ [] → AllByRecursion IsTaken (said selection add (found_in_files selection file dumps files))
+  files_taken : (file : ℕ) (dumps : DumpsState) (files : List (List ℕ)) → dumps.heard ≡ [] → AllByRecursion IsTaken (said selection add recorded (found_in_files selection file dumps files))
   files_taken file dumps [] e = tt
   files_taken file dumps (bytes ∷ files) e =
       let next = dumps_behind_cuts file selection None dumps (cuts 0 bytes) in
-      subst (AllByRecursion IsTaken) (sym (said-append selection add (found_in_file selection file dumps bytes) (found_in_files selection (file + 1) next files)))
-      (all_both IsTaken (said selection add (found_in_file selection file dumps bytes)) (said selection add (found_in_files selection (file + 1) next files))
-      (subst (λ (all : List Found). AllByRecursion IsTaken (said selection add all)) (sym (found_in_file-is selection file dumps bytes)) (from_taken file None dumps (cuts 0 bytes) e))
+      subst (AllByRecursion IsTaken) (sym (said-append selection add recorded (found_in_file selection file dumps bytes) (found_in_files selection (file + 1) next files)))
+      (all_both IsTaken (said selection add recorded (found_in_file selection file dumps bytes)) (said selection add recorded (found_in_files selection (file + 1) next files))
+      (subst (λ (all : List Found). AllByRecursion IsTaken (said selection add recorded all)) (sym (found_in_file-is selection file dumps bytes)) (from_taken file None dumps (cuts 0 bytes) e))
       (files_taken (file + 1) next files (cuts_none file None dumps (cuts 0 bytes) e)))
 
   placed_taken : (units : List ReplayUnit) → AllByRecursion IsTaken (map forget units) → AllByRecursion IsTaken units

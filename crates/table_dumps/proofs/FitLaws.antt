@@ -17,7 +17,7 @@ use Rattle.mrt_frame.specs.Cuts.{body_limit}
 use Rattle.bgp_update.specs.declared.next_hop.NextHop.{NextHop}
 use Rattle.bgp_update.specs.declared.next_hop.NextHop.TheVariants.{V4, V6, V6Pair}
 use Rattle.bgp_update.specs.declared.route.Route.{Route}
-use Rattle.bgp_update.specs.Families.{FamilyOf, Rules}
+use Rattle.bgp_update.specs.Families.{FamilyOf, RouteRules}
 use Rattle.peer_units.specs.declared.unit.PeerKey.{PeerKey}
 use Rattle.mrt_body.specs.RibRecords.{identifier_bytes, entry_bytes, rib_bytes, FitsIdentifier}
 use Rattle.mrt_writing.specs.Heads.{FitsPeerKey, state_after}
@@ -82,12 +82,12 @@ not_true : (b : Bool) → not b ≡ true → b ≡ false
 not_true true e = absurd cc
 not_true false e = refl
 
-entry_fits : (rules : Rules) (e : RouteKey × Route) → FitsRoute rules e → is_entry rules.family e ≡ true → FitsEntryRoute rules e.1
+entry_fits : (rules : RouteRules) (e : RouteKey × Route) → FitsRoute rules e → is_entry rules.family e ≡ true → FitsEntryRoute rules e.1
 entry_fits rules e h t =
     let short : IsShort true rules.family e = subst (λ (b : Bool). IsShort b rules.family e) t h.short in
     record { packs = h.packs; hop = entry_hop rules.family.own_fields e.1.next_hop t; kept = h.kept; short = omega (arith, short) }
 
-update_fits : (rules : Rules) (e : RouteKey × Route) → FitsRoute rules e → not (is_entry rules.family e) ≡ true → FitsUpdate rules (has_identifier e.0) e.0 e.1
+update_fits : (rules : RouteRules) (e : RouteKey × Route) → FitsRoute rules e → not (is_entry rules.family e) ≡ true → FitsUpdate rules (has_identifier e.0) e.0 e.1
 update_fits rules e h t =
     let short : IsShort false rules.family e = subst (λ (b : Bool). IsShort b rules.family e) (not_true (is_entry rules.family e) t) h.short in
     let hop = other_hop rules.family.own_fields e.1.next_hop t in
@@ -278,7 +278,7 @@ identified entries h = by_test (have_identifiers entries) refl
 
 -- ---- all parts
 
-module _ (rules : Rules) (total : ℕ) (few : total < 256 ^ 2) where
+module _ (rules : RouteRules) (total : ℕ) (few : total < 256 ^ 2) where
   -- what is known of an entry of any prefix
   abbrev Known : PrefixRoute → Type 0
   Known e = (e.peer < total) × (e.id < 256 ^ 4) × FitsEntryRoute rules e.route
@@ -341,7 +341,7 @@ module _ (rules : Rules) (total : ℕ) (few : total < 256 ^ 2) where
 
 -- ---- all records
 
-module _ (rules : Rules) (seconds : ℕ) (time : seconds < 256 ^ 4) (keys : List PeerKey) (few : length keys < 256 ^ 2) where
+module _ (rules : RouteRules) (seconds : ℕ) (time : seconds < 256 ^ 4) (keys : List PeerKey) (few : length keys < 256 ^ 2) where
   abbrev Fits : DumpRecord → Type 0
   Fits r = FitsDumpRecord rules seconds keys r
 
@@ -379,7 +379,7 @@ module _ (rules : Rules) (seconds : ℕ) (time : seconds < 256 ^ 4) (keys : List
       all_both Fits (map state_record peers) (map part_record (enumerate_from 0 parts) ++ flat_map (update_records rules.family) peers) (states_fit peers h)
       (all_both Fits (map part_record (enumerate_from 0 parts)) (flat_map (update_records rules.family) peers) (numbered_fit 0 parts (omega (arith, small)) (parts_fit rules (length keys) few peers e h)) (updates_fit peers h))
 
-pub dump_fits : (rules : Rules) (seconds : ℕ) (peers : List DumpedPeer) → seconds < 256 ^ 4 → FitsTables rules peers
+pub dump_fits : (rules : RouteRules) (seconds : ℕ) (peers : List DumpedPeer) → seconds < 256 ^ 4 → FitsTables rules peers
     → FitsDump rules seconds (keys_of peers) (checkpoint_records (record_split rules.family) rules.family peers)
 dump_fits rules seconds peers time h =
     let same : length (keys_of peers) ≡ length peers = length-map peers (λ p. p.key) in

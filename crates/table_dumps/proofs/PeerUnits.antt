@@ -6,7 +6,7 @@ use Rattle.std.specs.FinMap.Entries.{is_sorted}
 use Rattle.bgp_prefix.specs.Prefixes.{IpPrefix}
 use Rattle.bgp_prefix.specs.Keys.{RouteKey, key_cmp}
 use Rattle.bgp_update.specs.declared.route.Route.{Route}
-use Rattle.bgp_update.specs.Families.{Rules}
+use Rattle.bgp_update.specs.Families.{Rules, by_entry_width, route_rules}
 use Rattle.peer_units.specs.declared.state_rule.StateRule.{StateRule}
 use Rattle.peer_units.specs.declared.unit.PeerKey.{PeerKey}
 use Rattle.peer_units.specs.declared.unit.Payload.TheVariants.{State, Message}
@@ -60,27 +60,27 @@ module _ (rules : Rules) (rule : StateRule) (file seconds : ℕ) (keys : List Pe
 
   -- ---- entries
 
-  entries_say : (at : RecordAt) (prefix : IpPrefix) (number place : ℕ) (add_path : Bool) (entries : List PrefixRoute) → Tells test number keys → AllByRecursion (FitsPrefixRoute rules add_path (length keys)) entries
-      → SayAll (entries_of number prefix entries) (own (units_of_entries rules at keys prefix place entries))
+  entries_say : (at : RecordAt) (prefix : IpPrefix) (number place : ℕ) (add_path : Bool) (entries : List PrefixRoute) → Tells test number keys → AllByRecursion (FitsPrefixRoute (route_rules rules) add_path (length keys)) entries
+      → SayAll (entries_of number prefix entries) (own (units_of_entries (by_entry_width Four rules) at keys prefix place entries))
   entries_say at prefix number place add_path [] tells fit = tt
   entries_say at prefix number place add_path (e ∷ entries) tells fit =
       by_test (eqb e.peer number) (test (get_or keys e.peer no_peer)) (sym (tells e.peer fit.0.known)) (entries_say at prefix number (place + 1) add_path entries tells fit.1)
     where
-      by_test : (a b : Bool) → a ≡ b → SayAll (entries_of number prefix entries) (own (units_of_entries rules at keys prefix (place + 1) entries))
+      by_test : (a b : Bool) → a ≡ b → SayAll (entries_of number prefix entries) (own (units_of_entries (by_entry_width Four rules) at keys prefix (place + 1) entries))
           → SayAll (map (λ (x : PrefixRoute). (record { prefix = prefix; id = x.id }, x.route)) (cond a (e ∷ filter (λ (x : PrefixRoute). eqb x.peer number) entries) (filter (λ (x : PrefixRoute). eqb x.peer number) entries)))
-          (cond b (rib_unit rules at keys place e.peer (record { prefix = prefix; id = e.id }) (entry_field rules.family e.route) ∷ own (units_of_entries rules at keys prefix (place + 1) entries)) (own (units_of_entries rules at keys prefix (place + 1) entries)))
+          (cond b (rib_unit (by_entry_width Four rules) at keys place e.peer (record { prefix = prefix; id = e.id }) (entry_field rules.family e.route) ∷ own (units_of_entries (by_entry_width Four rules) at keys prefix (place + 1) entries)) (own (units_of_entries (by_entry_width Four rules) at keys prefix (place + 1) entries)))
       by_test true true s more = ((true, event_again rules (record { prefix = prefix; id = e.id }) e.route fit.0.route), more)
       by_test false false s more = more
       by_test true false s more = absurd cc
       by_test false true s more = absurd cc
 
-  parts_say : (offset number first : ℕ) (parts : List PrefixPart) → Tells test number keys → AllByRecursion (FitsDumpRecord rules seconds keys) (map part_record (enumerate_from first parts))
+  parts_say : (offset number first : ℕ) (parts : List PrefixPart) → Tells test number keys → AllByRecursion (FitsDumpRecord (route_rules rules) seconds keys) (map part_record (enumerate_from first parts))
       → SayAll (entries_of_parts number parts) (own (units_at offset (map part_record (enumerate_from first parts))))
   parts_say offset number first [] tells fit = tt
   parts_say offset number first (part ∷ parts) tells fit =
       let at = at_record file offset seconds in
       let next = offset + written_size (record_of rules.family seconds (part_record (first, part))) in
-      let here = units_of_entries rules at keys part.prefix 1 part.entries in
+      let here = units_of_entries (by_entry_width Four rules) at keys part.prefix 1 part.entries in
       let later = units_at next (map part_record (enumerate_from (first + 1) parts)) in
       subst (SayAll (entries_of_parts number (part ∷ parts))) (sym (filter-append (λ (u : ReplayUnit). test u.peer) here later))
       (say_both (entries_of number part.prefix part.entries) (entries_of_parts number parts) (own here) (own later)
@@ -107,7 +107,7 @@ module _ (rules : Rules) (rule : StateRule) (file seconds : ℕ) (keys : List Pe
       let later = own (units_at next (map (λ (x : RouteKey × Route). update p.key x.0 x.1) es)) in
       skipped (session_at offset p.key (update_payload e.0 e.1)) later t ∙ none_own next p es t
 
-  updates_say : (offset : ℕ) (p : DumpedPeer) (es : Table) → test p.key ≡ true → AllByRecursion (FitsDumpRecord rules seconds keys) (map (λ (e : RouteKey × Route). update p.key e.0 e.1) es)
+  updates_say : (offset : ℕ) (p : DumpedPeer) (es : Table) → test p.key ≡ true → AllByRecursion (FitsDumpRecord (route_rules rules) seconds keys) (map (λ (e : RouteKey × Route). update p.key e.0 e.1) es)
       → SayAll es (own (units_at offset (map (λ (e : RouteKey × Route). update p.key e.0 e.1) es)))
   updates_say offset p [] t fit = tt
   updates_say offset p (e ∷ es) t fit =
@@ -127,21 +127,21 @@ module _ (rules : Rules) (rule : StateRule) (file seconds : ℕ) (keys : List Pe
       ap own both.1 ∙ filter-append (λ (u : ReplayUnit). test u.peer) (units_at offset (update_records rules.family p)) (units_at both.0 (flat_map (update_records rules.family) peers))
       ∙ λ i. none_own offset p (others_in rules.family p) h.0 i ++ no_updates both.0 peers h.1 i
 
-  updates_of : (offset : ℕ) (front : List DumpedPeer) (p : DumpedPeer) (back : List DumpedPeer) → Others front → test p.key ≡ true → Others back → AllByRecursion (FitsDumpRecord rules seconds keys) (flat_map (update_records rules.family) (front ++ p ∷ back))
+  updates_of : (offset : ℕ) (front : List DumpedPeer) (p : DumpedPeer) (back : List DumpedPeer) → Others front → test p.key ≡ true → Others back → AllByRecursion (FitsDumpRecord (route_rules rules) seconds keys) (flat_map (update_records rules.family) (front ++ p ∷ back))
       → SayAll (others_in rules.family p) (own (units_at offset (flat_map (update_records rules.family) (front ++ p ∷ back))))
   updates_of offset [] p back f t b fit =
       let both = units_both offset (update_records rules.family p) (flat_map (update_records rules.family) back) in
       let all : own (units_at offset (update_records rules.family p ++ flat_map (update_records rules.family) back)) ≡ own (units_at offset (update_records rules.family p)) =
       ap own both.1 ∙ filter-append (λ (u : ReplayUnit). test u.peer) (units_at offset (update_records rules.family p)) (units_at both.0 (flat_map (update_records rules.family) back))
       ∙ (λ i. own (units_at offset (update_records rules.family p)) ++ no_updates both.0 back b i) ∙ append-nil (own (units_at offset (update_records rules.family p))) in
-      subst (SayAll (others_in rules.family p)) (sym all) (updates_say offset p (others_in rules.family p) t (all_front (FitsDumpRecord rules seconds keys) (update_records rules.family p) (flat_map (update_records rules.family) back) fit))
+      subst (SayAll (others_in rules.family p)) (sym all) (updates_say offset p (others_in rules.family p) t (all_front (FitsDumpRecord (route_rules rules) seconds keys) (update_records rules.family p) (flat_map (update_records rules.family) back) fit))
   updates_of offset (q ∷ front) p back f t b fit =
       let more = flat_map (update_records rules.family) (front ++ p ∷ back) in
       let both = units_both offset (update_records rules.family q) more in
       let all : own (units_at offset (update_records rules.family q ++ more)) ≡ own (units_at both.0 more) =
       ap own both.1 ∙ filter-append (λ (u : ReplayUnit). test u.peer) (units_at offset (update_records rules.family q)) (units_at both.0 more)
       ∙ (λ i. none_own offset q (others_in rules.family q) f.0 i ++ own (units_at both.0 more)) in
-      subst (SayAll (others_in rules.family p)) (sym all) (updates_of both.0 front p back f.1 t b (all_back (FitsDumpRecord rules seconds keys) (update_records rules.family q) more fit))
+      subst (SayAll (others_in rules.family p)) (sym all) (updates_of both.0 front p back f.1 t b (all_back (FitsDumpRecord (route_rules rules) seconds keys) (update_records rules.family q) more fit))
 
   -- ---- state changes
 
@@ -164,14 +164,14 @@ module _ (rules : Rules) (rule : StateRule) (file seconds : ℕ) (keys : List Pe
   -- ---- all of them
 
   pub peer_units : (split : Split) → Splits split → (offset : ℕ) (front : List DumpedPeer) (p : DumpedPeer) (back : List DumpedPeer) → Others front → test p.key ≡ true → Others back
-      → Tells test (length front) keys → AllByRecursion (FitsDumpRecord rules seconds keys) (checkpoint_records split rules.family (front ++ p ∷ back))
+      → Tells test (length front) keys → AllByRecursion (FitsDumpRecord (route_rules rules) seconds keys) (checkpoint_records split rules.family (front ++ p ∷ back))
       → T (is_sorted key_cmp p.table) → (stays_up rule (state_after p.up) ≡ false → p.table ≡ [])
       → DumpsTable rules.family rule p.up p.table (own (units_at offset (checkpoint_records split rules.family (front ++ p ∷ back))))
   peer_units split whole offset front p back f t b tells fit sorted down =
       let peers = front ++ p ∷ back in
       let parts = map part_record (enumerate_from 0 (all_parts split rules.family peers)) in
       let updates = flat_map (update_records rules.family) peers in
-      let fit_behind = all_back (FitsDumpRecord rules seconds keys) (map state_record peers) (parts ++ updates) fit in
+      let fit_behind = all_back (FitsDumpRecord (route_rules rules) seconds keys) (map state_record peers) (parts ++ updates) fit in
       let first = units_both offset (map state_record peers) (parts ++ updates) in
       let second = units_both first.0 parts updates in
       let states = state_of offset front p back f t b in
@@ -181,13 +181,13 @@ module _ (rules : Rules) (rule : StateRule) (file seconds : ℕ) (keys : List Pe
       ∙ (λ i. states.1 i ++ (ap own second.1 ∙ filter-append (λ (u : ReplayUnit). test u.peer) (units_at first.0 parts) (units_at second.0 updates)) i) in
       let entries : SayAll (entries_in rules.family p) (own (units_at first.0 parts)) =
       subst (λ (es : Table). SayAll es (own (units_at first.0 parts))) (parts_have split whole rules.family front p back sorted)
-      (parts_say first.0 (length front) 0 (all_parts split rules.family peers) tells (all_front (FitsDumpRecord rules seconds keys) parts updates fit_behind)) in
+      (parts_say first.0 (length front) 0 (all_parts split rules.family peers) tells (all_front (FitsDumpRecord (route_rules rules) seconds keys) parts updates fit_behind)) in
       record {
         state = session_at states.0 p.key (State 6 (state_after p.up) rule);
         others = others;
         parts = all;
         says = refl;
-        each = say_both (entries_in rules.family p) (others_in rules.family p) (own (units_at first.0 parts)) (own (units_at second.0 updates)) entries (updates_of second.0 front p back f t b (all_back (FitsDumpRecord rules seconds keys) parts updates fit_behind));
+        each = say_both (entries_in rules.family p) (others_in rules.family p) (own (units_at first.0 parts)) (own (units_at second.0 updates)) entries (updates_of second.0 front p back f t b (all_back (FitsDumpRecord (route_rules rules) seconds keys) parts updates fit_behind));
         sorted = sorted;
         down = down;
       }

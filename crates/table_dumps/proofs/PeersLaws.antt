@@ -8,7 +8,8 @@ use Rattle.std.specs.FinMap.Entries.{is_sorted}
 use Rattle.bgp_prefix.specs.Prefixes.{IpPrefix}
 use Rattle.bgp_prefix.specs.Keys.{RouteKey, key_cmp}
 use Rattle.bgp_update.specs.declared.route.Route.{Route}
-use Rattle.bgp_update.specs.Families.{Rules}
+use Rattle.bgp_update.specs.declared.width.Width.TheVariants.{Four}
+use Rattle.bgp_update.specs.Families.{Rules, by_entry_width, route_rules}
 use Rattle.peer_units.specs.declared.state_rule.StateRule.{StateRule}
 use Rattle.peer_units.specs.declared.unit.PeerAddr.{PeerAddr}
 use Rattle.peer_units.specs.declared.unit.PeerAddr.TheVariants.{V4, V6}
@@ -106,7 +107,7 @@ module _ (split : Split) (whole : Splits split) (rules : Rules) (rule : StateRul
   units_for peers = units_of_dump file offset rules rule seconds (keys_of peers) (checkpoint_records split rules.family peers)
 
   abbrev Fit : List DumpedPeer → Type 0
-  Fit peers = AllByRecursion (FitsDumpRecord rules seconds (keys_of peers)) (checkpoint_records split rules.family peers)
+  Fit peers = AllByRecursion (FitsDumpRecord (route_rules rules) seconds (keys_of peers)) (checkpoint_records split rules.family peers)
 
   dumped : (front : List DumpedPeer) (p : DumpedPeer) (back : List DumpedPeer) → Apart (keys_of (front ++ p ∷ back)) → Fit (front ++ p ∷ back) → T (is_sorted key_cmp p.table) → (stays_up rule (state_after p.up) ≡ false → p.table ≡ [])
       → DumpsTable rules.family rule p.up p.table (units_of_peer (units_for (front ++ p ∷ back)) p.key)
@@ -197,7 +198,7 @@ module _ (rules : Rules) (rule : StateRule) (file seconds : ℕ) (keys : List Pe
   abbrev pub Listed : ReplayUnit → Type 0
   Listed u = list_any (λ (q : PeerKey). peer_eq q u.peer) keys ≡ true
 
-  entries_listed : (at : RecordAt) (prefix : IpPrefix) (place : ℕ) (add_path : Bool) (entries : List PrefixRoute) → AllByRecursion (FitsPrefixRoute rules add_path (length keys)) entries → AllByRecursion Listed (units_of_entries rules at keys prefix place entries)
+  entries_listed : (at : RecordAt) (prefix : IpPrefix) (place : ℕ) (add_path : Bool) (entries : List PrefixRoute) → AllByRecursion (FitsPrefixRoute (route_rules rules) add_path (length keys)) entries → AllByRecursion Listed (units_of_entries (by_entry_width Four rules) at keys prefix place entries)
   entries_listed at prefix place add_path [] h = tt
   entries_listed at prefix place add_path (e ∷ entries) h = (index_listed keys e.peer h.0.known, entries_listed at prefix (place + 1) add_path entries h.1)
     where
@@ -206,11 +207,11 @@ module _ (rules : Rules) (rule : StateRule) (file seconds : ℕ) (keys : List Pe
       index_listed (k ∷ ks) zero lt = or_true_left (peer_eq k k) (list_any (λ (q : PeerKey). peer_eq q k) ks) (peer_itself k)
       index_listed (k ∷ ks) (suc j) lt = or_true_right (peer_eq k (get_or ks j no_peer)) (list_any (λ (q : PeerKey). peer_eq q (get_or ks j no_peer)) ks) (index_listed ks j (omega (arith, lt)))
 
-  parts_listed : (offset first : ℕ) (parts : List PrefixPart) → AllByRecursion (FitsDumpRecord rules seconds keys) (map part_record (enumerate_from first parts)) → AllByRecursion Listed (units_at offset (map part_record (enumerate_from first parts)))
+  parts_listed : (offset first : ℕ) (parts : List PrefixPart) → AllByRecursion (FitsDumpRecord (route_rules rules) seconds keys) (map part_record (enumerate_from first parts)) → AllByRecursion Listed (units_at offset (map part_record (enumerate_from first parts)))
   parts_listed offset first [] h = tt
   parts_listed offset first (part ∷ parts) h =
       let next = offset + written_size (record_of rules.family seconds (part_record (first, part))) in
-      all_both Listed (units_of_entries rules (at_record file offset seconds) keys part.prefix 1 part.entries) (units_at next (map part_record (enumerate_from (first + 1) parts)))
+      all_both Listed (units_of_entries (by_entry_width Four rules) (at_record file offset seconds) keys part.prefix 1 part.entries) (units_at next (map part_record (enumerate_from (first + 1) parts)))
       (entries_listed (at_record file offset seconds) part.prefix 1 part.add_path part.entries h.0.0.each) (parts_listed next (first + 1) parts h.1)
 
   updates_listed : (offset : ℕ) (p : DumpedPeer) (es : List (RouteKey × Route)) → list_any (λ (q : PeerKey). peer_eq q p.key) keys ≡ true → AllByRecursion Listed (units_at offset (map (λ (e : RouteKey × Route). update p.key e.0 e.1) es))
@@ -239,32 +240,32 @@ module _ (rules : Rules) (rule : StateRule) (file seconds : ℕ) (keys : List Pe
   )
 
   -- all units are of listed peers
-  pub all_listed : (split : Split) (offset : ℕ) (peers : List DumpedPeer) → keys ≡ keys_of peers → AllByRecursion (FitsDumpRecord rules seconds keys) (checkpoint_records split rules.family peers)
+  pub all_listed : (split : Split) (offset : ℕ) (peers : List DumpedPeer) → keys ≡ keys_of peers → AllByRecursion (FitsDumpRecord (route_rules rules) seconds keys) (checkpoint_records split rules.family peers)
       → AllByRecursion Listed (units_at offset (checkpoint_records split rules.family peers))
   all_listed split offset peers e fit =
       let parts = map part_record (enumerate_from 0 (all_parts split rules.family peers)) in
       let updates = flat_map (update_records rules.family) peers in
-      let fit_behind = back_all (FitsDumpRecord rules seconds keys) (map state_record peers) (parts ++ updates) fit in
+      let fit_behind = back_all (FitsDumpRecord (route_rules rules) seconds keys) (map state_record peers) (parts ++ updates) fit in
       let first = units_both rules rule file seconds keys (λ (k : PeerKey). true) offset (map state_record peers) (parts ++ updates) in
       let second = units_both rules rule file seconds keys (λ (k : PeerKey). true) first.0 parts updates in
       subst (AllByRecursion Listed) (sym first.1)
       (all_both Listed (units_at offset (map state_record peers)) (units_at first.0 (parts ++ updates)) (states_listed offset [] peers e)
       (subst (AllByRecursion Listed) (sym second.1)
-      (all_both Listed (units_at first.0 parts) (units_at second.0 updates) (parts_listed first.0 0 (all_parts split rules.family peers) (front_all (FitsDumpRecord rules seconds keys) parts updates fit_behind)) (all_updates_listed second.0 [] peers e))))
+      (all_both Listed (units_at first.0 parts) (units_at second.0 updates) (parts_listed first.0 0 (all_parts split rules.family peers) (front_all (FitsDumpRecord (route_rules rules) seconds keys) parts updates fit_behind)) (all_updates_listed second.0 [] peers e))))
 
-  pub peers_again : (split : Split) (offset : ℕ) (peers : List DumpedPeer) → keys ≡ keys_of peers → Apart (keys_of peers) → AllByRecursion (FitsDumpRecord rules seconds keys) (checkpoint_records split rules.family peers)
+  pub peers_again : (split : Split) (offset : ℕ) (peers : List DumpedPeer) → keys ≡ keys_of peers → Apart (keys_of peers) → AllByRecursion (FitsDumpRecord (route_rules rules) seconds keys) (checkpoint_records split rules.family peers)
       → peers_of (units_at offset (checkpoint_records split rules.family peers)) ≡ keys_of peers
   unfolding peers_of
   peers_again split offset peers e apart fit =
       let parts = map part_record (enumerate_from 0 (all_parts split rules.family peers)) in
       let updates = flat_map (update_records rules.family) peers in
-      let fit_behind = back_all (FitsDumpRecord rules seconds keys) (map state_record peers) (parts ++ updates) fit in
+      let fit_behind = back_all (FitsDumpRecord (route_rules rules) seconds keys) (map state_record peers) (parts ++ updates) fit in
       let first = units_both rules rule file seconds keys (λ (k : PeerKey). true) offset (map state_record peers) (parts ++ updates) in
       let second = units_both rules rule file seconds keys (λ (k : PeerKey). true) first.0 parts updates in
       let states = units_at offset (map state_record peers) in
       let listed : AllByRecursion Listed (units_at first.0 (parts ++ updates)) =
       subst (AllByRecursion Listed) (sym second.1)
-      (all_both Listed (units_at first.0 parts) (units_at second.0 updates) (parts_listed first.0 0 (all_parts split rules.family peers) (front_all (FitsDumpRecord rules seconds keys) parts updates fit_behind)) (all_updates_listed second.0 [] peers e)) in
+      (all_both Listed (units_at first.0 parts) (units_at second.0 updates) (parts_listed first.0 0 (all_parts split rules.family peers) (front_all (FitsDumpRecord (route_rules rules) seconds keys) parts updates fit_behind)) (all_updates_listed second.0 [] peers e)) in
       ap (flat_map_after newcomer []) first.1
       ∙ after_both newcomer [] states (units_at first.0 (parts ++ updates))
       ∙ (λ i. states_new [] offset peers apart (all_fresh (keys_of peers)) i ++ none_new states (units_at first.0 (parts ++ updates)) (listed_been offset peers (units_at first.0 (parts ++ updates)) e listed) i)

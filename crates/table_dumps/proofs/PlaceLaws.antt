@@ -9,7 +9,7 @@ use Rattle.mrt_frame.specs.declared.cut.Cut.TheVariants.{Whole, Broken}
 use Rattle.mrt_frame.specs.Fields.{◌>>=◌, Reading}
 use Rattle.mrt_frame.specs.Cuts.{cuts}
 use Rattle.bgp_prefix.specs.Prefixes.{IpPrefix}
-use Rattle.bgp_update.specs.Families.{Rules}
+use Rattle.bgp_update.specs.Families.{Rules, by_entry_width}
 use Rattle.bgp_update.specs.declared.width.Width.{Width}
 use Rattle.peer_units.specs.declared.rib_rule.RibRule.TheVariants.{Add}
 use Rattle.peer_units.specs.declared.state_rule.StateRule.{StateRule}
@@ -22,10 +22,19 @@ use Rattle.peer_units.specs.Selections.{is_selected}
 use Rattle.mrt_body.specs.declared.record_place.RecordAt.{RecordAt}
 use Rattle.mrt_body.specs.declared.body_kind.BodyKind.{BodyKind}
 use Rattle.mrt_body.specs.declared.body_kind.BodyKind.TheVariants as content
-use Rattle.mrt_body.specs.Bgp4mp.{microseconds_at, session_peer_at, states_in}
+use Rattle.mrt_body.specs.Bgp4mp.{microseconds_at, session_peer_at, state_change_in}
+use Rattle.mrt_body.specs.KnownPeers.{told_peers}
+use Rattle.mrt_body.specs.OldEntries.{OldEntryForm, old_entry_in}
+use Rattle.mrt_body.specs.declared.bgp4mp.StateChange.{StateChange}
+use Rattle.mrt_body.proofs.ManyLaws.{done}
+use Rattle.peer_units.specs.declared.state_peers.StatePeers.{StatePeers}
+use Rattle.peer_units.specs.declared.state_peers.StatePeers.TheVariants.{Recorded}
+use Rattle.peer_units.specs.declared.table_dump_rule.TableDumpRule.{TableDumpRule}
+use Rattle.peer_units.specs.declared.table_dump_rule.TableDumpRule.TheVariants.{Aside, Read}
+use Rattle.bgp_update.specs.declared.width.Width.TheVariants.{Four}
 use Rattle.mrt_body.specs.RibDumps.{DumpsState}
 use Rattle.mrt_body.specs.RibRecords.{RibForm, WrittenEntry, rib_beside, rib_prefix}
-use Rattle.mrt_body.specs.Units.{at_record, entry_unit, entry_units, rib_units, session_unit, message_unit, states_unit, units_in, selected_units, units_or_none, found_units, found_at, found_from, found_in_file, unit_of, body_kind_of, is_extended, index_after, dumps_after, begins}
+use Rattle.mrt_body.specs.Units.{at_record, entry_unit, entry_units, rib_units, session_unit, message_unit, change_unit, change_units, old_unit, old_units, old_entry_unit, units_in, selected_units, units_or_none, found_units, found_at, found_from, found_in_file, unit_of, body_kind_of, is_extended, index_after, dumps_after, begins}
 use Rattle.mrt_body.proofs.IndexLaws.{found_in_file-is}
 use Rattle.table_dumps.specs.Resuming.{forget}
 use Rattle.mrt_writing.proofs.DumpLaws.{clears_none, behind_none}
@@ -62,29 +71,44 @@ module _ (file other offset seconds : ℕ) where
       by_peer (Err fault) = refl
       by_peer (Ok peer) = refl
 
-  abbrev states_of : RecordAt → StateRule → ℕ → Reading PeerKey → Result ReplayUnit Fault
-  states_of place rule microseconds read = read >>= λ peer. states_in peer.1 >>= λ states. Ok (session_unit place microseconds peer.0 (State states.0 states.1 rule))
+  changes_alike : (rule : StateRule) (change : StateChange) (peers : List PeerKey) → map forget (map (change_unit rule at change) peers) ≡ map forget (map (change_unit rule there change) peers)
+  changes_alike rule change [] = refl
+  changes_alike rule change (peer ∷ peers) = ap (λ (units : List ReplayUnit). forget (change_unit rule at change peer) ∷ units) (changes_alike rule change peers)
 
-  states_alike : (rule : StateRule) (width : Width) (first : Reading ℕ)
-      → forget_read ((first >>= λ m. states_of at rule m.0 (session_peer_at width m.1)) >>= λ unit. Ok (unit ∷ [])) ≡ forget_read ((first >>= λ m. states_of there rule m.0 (session_peer_at width m.1)) >>= λ unit. Ok (unit ∷ []))
-  states_alike rule width (Err fault) = refl
-  states_alike rule width (Ok m) = by_peer (session_peer_at width m.1)
+  states_alike : (selection : UnitSelection) (known : List PeerKey) (read : Result StateChange Fault)
+      → forget_read (read >>= λ change. Ok (change_units selection known at change)) ≡ forget_read (read >>= λ change. Ok (change_units selection known there change))
+  states_alike selection known (Err fault) = refl
+  states_alike selection known (Ok change) = ap (λ (units : List ReplayUnit). Ok units) (changes_alike selection.states change (told_peers selection.state_peers known change.ends))
+
+  old_alike : (rule : TableDumpRule) (rules : Rules) (body : List ℕ) → forget_read (old_units rule rules at body) ≡ forget_read (old_units rule rules there body)
+  unfolding old_entry_unit
+  old_alike Aside rules body = refl
+  old_alike Read rules body = by_form (old_entry_in rules.family body)
     where
-      by_states : (peer : PeerKey) (s : Result (ℕ × ℕ) Fault) → forget_read ((s >>= λ states. Ok (session_unit at m.0 peer (State states.0 states.1 rule))) >>= λ unit. Ok (unit ∷ [])) ≡ forget_read ((s >>= λ states. Ok (session_unit there m.0 peer (State states.0 states.1 rule))) >>= λ unit. Ok (unit ∷ []))
-      by_states peer (Err fault) = refl
-      by_states peer (Ok s) = refl
+      by_form : (r : Result OldEntryForm Fault) → forget_read ((r >>= λ form. Ok (old_unit rules at form)) >>= λ unit. Ok (unit ∷ [])) ≡ forget_read ((r >>= λ form. Ok (old_unit rules there form)) >>= λ unit. Ok (unit ∷ []))
+      by_form (Err fault) = refl
+      by_form (Ok form) = refl
 
-      by_peer : (r : Reading PeerKey) → forget_read (states_of at rule m.0 r >>= λ unit. Ok (unit ∷ [])) ≡ forget_read (states_of there rule m.0 r >>= λ unit. Ok (unit ∷ []))
-      by_peer (Err fault) = refl
-      by_peer (Ok peer) = by_states peer.0 (states_in peer.1)
+  units_alike : (selection : UnitSelection) (known : List PeerKey) (extended : Bool) (index : Option (List PeerKey)) (k : BodyKind) (body : List ℕ) → forget_read (units_in selection known at extended index k body) ≡ forget_read (units_in selection known there extended index k body)
+  unfolding message_unit
+  units_alike selection known extended index content.IndexTable body = refl
+  units_alike selection known extended index (content.Rib add_path) body = rib_alike (by_entry_width Four selection.rules) index (rib_beside selection.rules.family add_path index body)
+  units_alike selection known extended index (content.Message width add_path) body = message_alike selection.rules width add_path (microseconds_at extended body)
+  units_alike selection known extended index (content.States width) body = states_alike selection known (state_change_in extended width body)
+  units_alike selection known extended index content.OldEntry body = old_alike selection.table_dumps selection.rules body
+  units_alike selection known extended index content.Aside body = refl
 
-  units_alike : (rules : Rules) (rule : StateRule) (extended : Bool) (index : Option (List PeerKey)) (k : BodyKind) (body : List ℕ) → forget_read (units_in rules rule at extended index k body) ≡ forget_read (units_in rules rule there extended index k body)
-  unfolding message_unit states_unit
-  units_alike rules rule extended index content.IndexTable body = refl
-  units_alike rules rule extended index (content.Rib add_path) body = rib_alike rules index (rib_beside rules.family add_path index body)
-  units_alike rules rule extended index (content.Message width add_path) body = message_alike rules width add_path (microseconds_at extended body)
-  units_alike rules rule extended index (content.States width) body = states_alike rule width (microseconds_at extended body)
-  units_alike rules rule extended index content.Aside body = refl
+-- where each state change is the recorded peer's, it is no matter which peers are known
+pub units_known : (selection : UnitSelection) (known others : List PeerKey) (at : RecordAt) (extended : Bool) (index : Option (List PeerKey)) (k : BodyKind) (body : List ℕ) → selection.state_peers ≡ Recorded
+    → units_in selection known at extended index k body ≡ units_in selection others at extended index k body
+units_known selection known others at extended index content.IndexTable body is = refl
+units_known selection known others at extended index (content.Rib add_path) body is = refl
+units_known selection known others at extended index (content.Message width add_path) body is = refl
+units_known selection known others at extended index (content.States width) body is =
+    ap (λ (rule : StatePeers). state_change_in extended width body >>= λ change. done (map (change_unit selection.states at change) (told_peers rule known change.ends))) is
+    ∙ sym (ap (λ (rule : StatePeers). state_change_in extended width body >>= λ change. done (map (change_unit selection.states at change) (told_peers rule others change.ends))) is)
+units_known selection known others at extended index content.OldEntry body is = refl
+units_known selection known others at extended index content.Aside body is = refl
 
 -- ---- those that are selected
 
@@ -114,7 +138,7 @@ found_kept selection place (Err fault) = refl
 
 -- ---- a whole file, where RIB dumps are added
 
-module _ (selection : UnitSelection) (add : selection.ribs ≡ Add) where
+module _ (selection : UnitSelection) (add : selection.ribs ≡ Add) (recorded : selection.state_peers ≡ Recorded) where
   abbrev pub said : List Found → List ReplayUnit
   said all = map forget (filter_map unit_of all)
 
@@ -123,12 +147,12 @@ module _ (selection : UnitSelection) (add : selection.ribs ≡ Add) where
 
   pub whole_said : (file : ℕ) (index : Option (List PeerKey)) (dumps : DumpsState) (offset seconds kind subtype : ℕ) (body : List ℕ) → dumps.heard ≡ []
       → said (found_at file selection index dumps (Whole (record { offset = offset; seconds = seconds; kind = kind; subtype = subtype; body = body })))
-      ≡ kept selection (forget_read (units_in selection.rules selection.states (at_record file offset seconds) (is_extended kind) index (body_kind_of selection.rules.family kind subtype) body))
+      ≡ kept selection (forget_read (units_in selection dumps.known (at_record file offset seconds) (is_extended kind) index (body_kind_of selection.rules.family kind subtype) body))
   unfolding found_at
   whole_said file index dumps offset seconds kind subtype body e =
       let at = at_record file offset seconds in
       let k = body_kind_of selection.rules.family kind subtype in
-      let read = units_in selection.rules selection.states at (is_extended kind) index k body in
+      let read = units_in selection dumps.known at (is_extended kind) index k body in
       ap (λ (clears : List ReplayUnit). said (map (λ (u : ReplayUnit). found.Unit u) clears ++ found_units selection at read)) (clears_none (begins selection at index dumps k body) at dumps.heard e)
       ∙ ap (map forget) (found_kept selection at read) ∙ kept_forget selection read
 
@@ -140,17 +164,17 @@ module _ (selection : UnitSelection) (add : selection.ribs ≡ Add) where
       let at = at_record file r.offset r.seconds in
       let there = at_record other r.offset r.seconds in
       let k = body_kind_of selection.rules.family r.kind r.subtype in
-      let read = units_in selection.rules selection.states at (is_extended r.kind) index k r.body in
-      let again = units_in selection.rules selection.states there (is_extended r.kind) index k r.body in
+      let read = units_in selection dumps.known at (is_extended r.kind) index k r.body in
+      let again = units_in selection others.known there (is_extended r.kind) index k r.body in
       let next = dumps_after file selection index dumps (Whole r) in
       let next' = dumps_after other selection index others (Whole r) in
       let first : said (found_at file selection index dumps (Whole r)) ≡ said (found_at other selection index others (Whole r)) =
       whole_said file index dumps r.offset r.seconds r.kind r.subtype r.body e
-      ∙ ap (kept selection) (units_alike file other r.offset r.seconds selection.rules selection.states (is_extended r.kind) index k r.body)
+      ∙ ap (kept selection) (units_alike file other r.offset r.seconds selection dumps.known (is_extended r.kind) index k r.body ∙ ap forget_read (units_known selection dumps.known others.known there (is_extended r.kind) index k r.body recorded))
       ∙ sym (whole_said other index others r.offset r.seconds r.kind r.subtype r.body f) in
       let behind = index_after selection.rules.family index (Whole r) in
       said-append (found_at file selection index dumps (Whole r)) (found_from file selection behind next cs)
-      ∙ (λ i. first i ++ found_alike file other behind next next' cs (behind_none selection (begins selection at index dumps k r.body) dumps k read add e) (behind_none selection (begins selection there index others k r.body) others k again add f) i)
+      ∙ (λ i. first i ++ found_alike file other behind next next' cs (behind_none selection (begins selection at index dumps k r.body) dumps k r.body read add e) (behind_none selection (begins selection there index others k r.body) others k r.body again add f) i)
       ∙ sym (said-append (found_at other selection index others (Whole r)) (found_from other selection behind next' cs))
 
   pub files_alike : (file other : ℕ) (dumps others : DumpsState) (bytes : List ℕ) → dumps.heard ≡ [] → others.heard ≡ [] → said (found_in_file selection file dumps bytes) ≡ said (found_in_file selection other others bytes)

@@ -2,6 +2,8 @@
 use Rattle.std.specs.Prelude.{◌≡◌, ℕ, ◌-◌, ◌/◌, ◌^◌, ◌≤◌, min, max, List, [], ◌∷◌, map, length}
 use Rattle.std.specs.List.{fold}
 use Rattle.mrt_frame.specs.Cuts.{file_limit}
+use Rattle.bgp_update.specs.Families.{route_rules}
+use Rattle.peer_units.specs.declared.state_peers.StatePeers.TheVariants.{Recorded}
 use Rattle.peer_units.specs.declared.rib_rule.RibRule.TheVariants.{Add}
 use Rattle.peer_units.specs.declared.state_rule.StateRule.{StateRule}
 use Rattle.peer_units.specs.declared.unit.PeerKey.{PeerKey}
@@ -41,12 +43,14 @@ checkpoint_bytes selection units =
 
 -- what they leave can be written, and read in one file
 pub record FitsCheckpoint (selection : UnitSelection) (units : List ReplayUnit) : Type 0 where
-  pub tables : FitsTables selection.rules (dumped_peers selection.states units)
+  pub tables : FitsTables (route_rules selection.rules) (dumped_peers selection.states units)
   pub bytes : length (checkpoint_bytes selection units) ≤ file_limit
 
--- Behind these files a replay can be cut: RIB dumps are added, no prefix is named, and no route is left out.
+-- Behind these files a replay can be cut: RIB dumps are added, each state change is the recorded peer's, no prefix is
+-- named, and no route is left out.
 pub record CanBeCut (selection : UnitSelection) (files : List (List ℕ)) : Type 0 where
   pub added : selection.ribs ≡ Add
+  pub recorded : selection.state_peers ≡ Recorded
   pub whole : selection.prefixes ≡ []
   pub fits : FitsCheckpoint selection (units_of selection files)
 

@@ -4,7 +4,7 @@ use Rattle.std.specs.List.{AllByRecursion}
 use Rattle.bgp_prefix.specs.Prefixes.{IsIpPrefix}
 use Rattle.bgp_prefix.specs.Keys.{RouteKey}
 use Rattle.bgp_update.specs.declared.route.Route.{Route}
-use Rattle.bgp_update.specs.Families.{FamilyOf, Rules}
+use Rattle.bgp_update.specs.Families.{FamilyOf, RouteRules}
 use Rattle.bgp_update.specs.Packing.{CanPack}
 use Rattle.mrt_writing.specs.Heads.{FitsPeerKey}
 use Rattle.mrt_writing.specs.RouteAttributes.{IsKeptBy, entry_most}
@@ -21,7 +21,7 @@ IsShort false family e = length (update_field family (has_identifier e.0) e.0 e.
 
 -- The key is one of the family; and the route's numbers have their widths, it keeps what these rules ask for, and it
 -- isn't too long.
-pub record FitsRoute (rules : Rules) (e : RouteKey × Route) : Type 0 where
+pub record FitsRoute (rules : RouteRules) (e : RouteKey × Route) : Type 0 where
   pub formed : IsIpPrefix e.0.prefix
   pub narrow : e.0.prefix.len ≤ rules.family.width
   pub id : e.0.id < 256 ^ 4
@@ -29,12 +29,12 @@ pub record FitsRoute (rules : Rules) (e : RouteKey × Route) : Type 0 where
   pub kept : IsKeptBy rules.kept e.1.kept
   pub short : IsShort (is_entry rules.family e) rules.family e
 
-pub record FitsPeer (rules : Rules) (p : DumpedPeer) : Type 0 where
+pub record FitsPeer (rules : RouteRules) (p : DumpedPeer) : Type 0 where
   pub key : FitsPeerKey p.key
   pub routes : AllByRecursion (FitsRoute rules) p.table
 
 -- no more peers than an index table has, and no more records of prefixes than there are sequence numbers
-pub record FitsTables (rules : Rules) (peers : List DumpedPeer) : Type 0 where
+pub record FitsTables (rules : RouteRules) (peers : List DumpedPeer) : Type 0 where
   pub kinds : HasRibKinds rules.family
   pub few : length peers < 256 ^ 2
   pub each : AllByRecursion (FitsPeer rules) peers

@@ -4,13 +4,14 @@ ghost use Rattle.std.specs.Prelude.{map};
 ghost use Rattle.std.specs.List.{filter_map};
 ghost use Rattle.peer_units.specs.Choices.{UnitSelection};
 ghost use Rattle.peer_units.specs.declared.rib_rule.RibRule.TheVariants.{Add};
+ghost use Rattle.peer_units.specs.declared.state_peers.StatePeers.TheVariants.{Recorded};
 ghost use Rattle.mrt_body.specs.RibDumps.{DumpsState};
 ghost use Rattle.mrt_body.specs.Units.{found_in_file, unit_of, units_of};
 ghost use Rattle.table_dumps.specs.Resuming.{forget};
 ghost use Rattle.std.specs.Prelude.{◌≡◌, ◌<◌, ◌^◌, ◌++◌, ◌∷◌, [], false, Bool, List, T, length, ℕ};
 ghost use Rattle.bgp_prefix.specs.Keys.{RouteKey, key_cmp};
 ghost use Rattle.bgp_update.specs.declared.route.Route.{Route};
-ghost use Rattle.bgp_update.specs.Families.{FamilyOf, Rules};
+ghost use Rattle.bgp_update.specs.Families.{FamilyOf, RouteRules, Rules, route_rules};
 ghost use Rattle.peer_units.specs.declared.state_rule.StateRule.{StateRule};
 ghost use Rattle.peer_units.specs.Plain.{Unit as ReplayUnit};
 ghost use Rattle.peer_units.specs.declared.unit.PeerKey.{PeerKey};
@@ -61,18 +62,18 @@ pub fn records_have_each_entry()
 pub fn checkpoints_leave_each_table()
     ensures peers { (split : Split) (rules : Rules) (rule : StateRule)
         (file offset seconds : ℕ) (peers : List DumpedPeer) → Apart (keys_of peers) →
-        AllByRecursion (FitsDumpRecord rules seconds (keys_of peers)) (checkpoint_records split rules.family peers) →
+        AllByRecursion (FitsDumpRecord (route_rules rules) seconds (keys_of peers)) (checkpoint_records split rules.family peers) →
         peers_of (units_of_dump file offset rules rule seconds (keys_of peers) (checkpoint_records split rules.family peers)) ≡ keys_of peers }
     ensures table { (split : Split) → Splits split →
         (rules : Rules) (rule : StateRule) (file offset seconds : ℕ) (front : List DumpedPeer) (p : DumpedPeer) (back : List DumpedPeer) →
         Apart (keys_of (front ++ p ∷ back)) →
-        AllByRecursion (FitsDumpRecord rules seconds (keys_of (front ++ p ∷ back))) (checkpoint_records split rules.family (front ++ p ∷ back)) →
+        AllByRecursion (FitsDumpRecord (route_rules rules) seconds (keys_of (front ++ p ∷ back))) (checkpoint_records split rules.family (front ++ p ∷ back)) →
         T (is_sorted key_cmp p.table) → (stays_up rule (state_after p.up) ≡ false → p.table ≡ []) →
         table_of (steps_of (units_of_peer (units_of_dump file offset rules rule seconds (keys_of (front ++ p ∷ back)) (checkpoint_records split rules.family (front ++ p ∷ back))) p.key)) ≡ p.table }
     ensures up { (split : Split) → Splits split →
         (rules : Rules) (rule : StateRule) (file offset seconds : ℕ) (front : List DumpedPeer) (p : DumpedPeer) (back : List DumpedPeer) →
         Apart (keys_of (front ++ p ∷ back)) →
-        AllByRecursion (FitsDumpRecord rules seconds (keys_of (front ++ p ∷ back))) (checkpoint_records split rules.family (front ++ p ∷ back)) →
+        AllByRecursion (FitsDumpRecord (route_rules rules) seconds (keys_of (front ++ p ∷ back))) (checkpoint_records split rules.family (front ++ p ∷ back)) →
         T (is_sorted key_cmp p.table) → (stays_up rule (state_after p.up) ≡ false → p.table ≡ []) →
         is_as rule (is_up (units_of_peer (units_of_dump file offset rules rule seconds (keys_of (front ++ p ∷ back)) (checkpoint_records split rules.family (front ++ p ∷ back))) p.key))
         (is_established (units_of_peer (units_of_dump file offset rules rule seconds (keys_of (front ++ p ∷ back)) (checkpoint_records split rules.family (front ++ p ∷ back))) p.key)) ≡ p.up }
@@ -81,13 +82,14 @@ pub fn checkpoints_leave_each_table()
 /// The records of tables that fit can be written, and so are read as their units: each part of a prefix's routes is as
 /// long as a record may be, and has no identifiers where all are 0.
 pub fn tables_that_fit_are_written()
-    ensures { (rules : Rules) (seconds : ℕ) (peers : List DumpedPeer) → seconds < 256 ^ 4 → FitsTables rules peers →
+    ensures { (rules : RouteRules) (seconds : ℕ) (peers : List DumpedPeer) → seconds < 256 ^ 4 → FitsTables rules peers →
         FitsDump rules seconds (keys_of peers) (checkpoint_records (record_split rules.family) rules.family peers) }
 {}
 
-/// Where RIB dumps are added, a file gives the same units whatever stands before it, but for their places.
+/// Where RIB dumps are added and each state change is the recorded peer's, a file gives the same units whatever stands
+/// before it, but for their places.
 pub fn files_give_units_alike()
-    ensures { (selection : UnitSelection) → selection.ribs ≡ Add →
+    ensures { (selection : UnitSelection) → selection.ribs ≡ Add → selection.state_peers ≡ Recorded →
         (file other : ℕ) (dumps others : DumpsState) (bytes : List ℕ) → dumps.heard ≡ [] → others.heard ≡ [] →
         map forget (filter_map unit_of (found_in_file selection file dumps bytes))
         ≡ map forget (filter_map unit_of (found_in_file selection other others bytes)) }
@@ -95,7 +97,8 @@ pub fn files_give_units_alike()
 
 /// A replay can be cut between two files: the units of the checkpoint of some files, and then of others, are of the
 /// same peers, in the same order, as those of all these files, and leave each of them up or not, established or not,
-/// and with the same table. So it is where RIB dumps are added and no prefix is named, if no route is left out.
+/// and with the same table. So it is where RIB dumps are added, each state change is the recorded peer's and no prefix
+/// is named, if no route is left out.
 pub fn replays_can_be_cut()
     ensures peers { (selection : UnitSelection) (files others : List (List ℕ)) → CanBeCut selection files →
         peers_of (resumed_units selection files others) ≡ peers_of (units_of selection (files ++ others)) }

@@ -1,12 +1,12 @@
-use Rattle.std.proofs.Common.{List, ◌≡◌, ◌∙◌, [], length, subst, arith}
+use Rattle.std.proofs.Common.{List, ◌≡◌, length, subst, arith}
 use Rattle.std.proofs.lemmas.Grind.{common_steps}
 use Rattle.std.specs.Prelude.{IfSome}
 use Rattle.bgp_update.specs.declared.kept_attribute.AttributeSet.{AttributeSet}
-use Rattle.bgp_update.specs.Families.{rules_of}
+use Rattle.bgp_update.specs.Families.{route_rules_of}
 use Rattle.bgp_update.specs.Hops.{by_hop}
 use Rattle.bgp_update.specs.KeptAttributes.{KeptValue}
 use Rattle.bgp_update.specs.Updates.{update_in}
-use Rattle.bgp_update.specs.Values.{kept_route, plain_rules, values_asked}
+use Rattle.bgp_update.specs.Values.{kept_route, values_asked}
 use Rattle.bgp_update.specs.Decoded.{AddsRoute, AreKeysOf, AreUpdateSpans}
 use Rattle.bgp_update.proofs.Spans.{IsGrown-trans, decoded_update}
 use Rattle.bgp_update.proofs.decoding.decode_asked_update.Goals as goal
@@ -24,12 +24,12 @@ returns g c =
     let start : c.len-start.result ≡ length keys = grind (arith, common_steps) in
     let spans : AreUpdateSpans (length keys) n c.in_ok-route.route c.in_ok-reached_route.reached_route c.in_ok-spans.spans =
     subst (λ s. AreUpdateSpans s n c.in_ok-route.route c.in_ok-reached_route.reached_route c.in_ok-spans.spans) start c.in_ok-spans.ensures in
-    let read = update_in (rules_of g.F.Unicast.family c.args.asked) c.args.width c.args.add_path c.args.body.now in
+    let read = update_in (route_rules_of g.F.Unicast.family c.args.asked) c.args.width c.args.add_path c.args.body.now in
     let ks : List KeptValue = values_asked c.read_asked_keys.new.asked in
     let adds : AddsRoute old mid (kept_route c.args.width first ks) c.in_ok-route.route =
     subst (λ (k : List KeptValue). AddsRoute old mid (kept_route c.args.width first k) c.in_ok-route.route) c.in_ok-values.ensures own in
     let by_reached : IfSome c.in_ok-reached_route.reached_route (AddsRoute mid new (by_hop (kept_route c.args.width first ks) n.reached_hop)) =
     subst (λ (k : List KeptValue). IfSome c.in_ok-reached_route.reached_route (AddsRoute mid new (by_hop (kept_route c.args.width first k) n.reached_hop))) c.in_ok-values.ensures reached.route in
     let decoded = decoded_update keys c.read_asked_keys.new.keys.items old mid new n (kept_route c.args.width first ks) read c.in_ok-route.route c.in_ok-reached_route.reached_route c.in_ok-spans.spans
-    (subst (λ (s : AttributeSet). AreKeysOf keys c.read_asked_keys.new.keys.items n (kept_route c.args.width first ks) (update_in (rules_of g.F.Unicast.family s) c.args.width c.args.add_path c.args.body.now)) c.new-kept.ensures.asked c.in_ok-appended.ensures.said) spans adds reached.grown by_reached reached.both in
+    (subst (λ (s : AttributeSet). AreKeysOf keys c.read_asked_keys.new.keys.items n (kept_route c.args.width first ks) (update_in (route_rules_of g.F.Unicast.family s) c.args.width c.args.add_path c.args.body.now)) c.new-kept.ensures.asked c.in_ok-appended.ensures.said) spans adds reached.grown by_reached reached.both in
     record { exact = decoded.0; there = decoded.1; keys = c.in_ok-appended.ensures.grown; bytes = IsGrown-trans old mid new own.grown reached.grown }

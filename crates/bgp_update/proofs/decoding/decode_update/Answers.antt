@@ -1,13 +1,11 @@
-use Rattle.std.proofs.Common.{List, ◌≡◌, ◌∙◌, [], length, subst, arith}
+use Rattle.std.proofs.Common.{List, ◌≡◌, [], length, subst, arith}
 use Rattle.std.proofs.lemmas.Grind.{common_steps}
 use Rattle.std.specs.Prelude.{IfSome}
-use Rattle.bgp_update.specs.declared.kept_attribute.AttributeSet.{AttributeSet}
-use Rattle.bgp_update.specs.Families.{rules_of}
 use Rattle.bgp_update.specs.Hops.{by_hop}
 use Rattle.bgp_update.specs.KeptAttributes.{KeptValue}
 use Rattle.bgp_update.specs.Updates.{update_in}
-use Rattle.bgp_update.specs.Values.{kept_route, plain_rules, values_asked}
-use Rattle.bgp_update.specs.Decoded.{AddsRoute, AreKeysOf, AreUpdateSpans}
+use Rattle.bgp_update.specs.Values.{kept_route, plain_rules}
+use Rattle.bgp_update.specs.Decoded.{AddsRoute, AreUpdateSpans}
 use Rattle.bgp_update.proofs.Spans.{IsGrown-trans, decoded_update}
 use Rattle.bgp_update.proofs.decoding.decode_update.Goals as goal
 

@@ -1,7 +1,7 @@
 use Rattle.std.proofs.Common.{arith, ◌<◌, ◌≡◌, length}
 use Rattle.std.proofs.lemmas.Bool.Decides.{nat_tests}
 use Rattle.std.proofs.lemmas.Result.{err_from_is_err_and}
-use Rattle.bgp_update.specs.Attributes.{attributes_in, route_from}
+use Rattle.bgp_update.specs.Attributes.{attributes_in}
 use Rattle.bgp_update.specs.Values.{as_written, kept_value, plain_rules}
 use Rattle.bgp_update.proofs.AttributeLoop.{attribute_at_shorter, starts, goes_on, fails, refuses, ends}
 use Rattle.bgp_update.proofs.PackedReadings.{keeps_spelled, keeps_writable}

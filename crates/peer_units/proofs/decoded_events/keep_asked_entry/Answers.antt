@@ -2,6 +2,7 @@ use Rattle.std.proofs.Common.{rules, ◌≡◌, List, refl}
 use Rattle.std.proofs.lemmas.Result.{on_ok_weaker}
 use Rattle.bgp_prefix.specs.Keys.{RouteKey as Key}
 use Rattle.bgp_update.specs.Decoded.{IsGrown}
+use Rattle.bgp_update.specs.Families.{route_rules}
 use Rattle.bgp_update.proofs.Spans.{grown_same}
 use Rattle.peer_units.specs.declared.decoded_events.DecodedEvent.TheVariants as decoded
 use Rattle.peer_units.specs.DecodedEvents.{event_at}
@@ -12,7 +13,7 @@ use Rattle.peer_units.proofs.decoded_events.keep_asked_entry.Goals as goal
 pub returns-in-Ok-clause-kept : goal.returns-in-Ok-clause-kept
 returns-in-Ok-clause-kept g c =
     let bytes = c.decode_asked_entry.new.bytes.items in
-    let is = entry_event_in c.args.rules c.args.key c.args.attrs.now in
+    let is = entry_event_in (route_rules c.args.rules) c.args.rules.entry_width c.args.key c.args.attrs.now in
     let grown : IsGrown c.args.bytes.now.items bytes = search rules in
     on_ok_weaker c.keep.result (λ added (keys : List Key).
     let own : event_at keys bytes (decoded.Rib c.args.key c.in-Ok.route) ≡ is = search rules in
@@ -22,7 +23,7 @@ returns-in-Ok-clause-kept g c =
 pub returns-in-Err-Bad-clause-kept : goal.returns-in-Err-Bad-clause-kept
 returns-in-Err-Bad-clause-kept g c =
     let bytes = c.decode_asked_entry.new.bytes.items in
-    let is = entry_event_in c.args.rules c.args.key c.args.attrs.now in
+    let is = entry_event_in (route_rules c.args.rules) c.args.rules.entry_width c.args.key c.args.attrs.now in
     let grown : IsGrown c.args.bytes.now.items bytes = search rules in
     on_ok_weaker c.keep-in-Err-Bad.result (λ added (keys : List Key).
     let own : event_at keys bytes (decoded.Damaged c.in-Err-Bad.fault) ≡ is = search rules in

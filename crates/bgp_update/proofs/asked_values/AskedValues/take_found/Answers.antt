@@ -1,6 +1,6 @@
 use Rattle.std.proofs.Common.{sym, ◌∙◌}
 use Rattle.std.proofs.lemmas.Result.{IfErr-weaker}
-use Rattle.bgp_update.specs.Families.{rules_of}
+use Rattle.bgp_update.specs.Families.{route_rules_of}
 use Rattle.bgp_update.specs.Values.{all_values, as_written, kept_value, plain_rules, RefusesAsked, RefusesAttribute}
 use Rattle.bgp_update.proofs.AskedTaken.{on_ok, takes_plain, refuses_plain, takes_kept, refuses_kept}
 use Rattle.bgp_update.proofs.asked_values.AskedValues.take_found.Goals as goal
@@ -11,7 +11,7 @@ returns-in-Some-clause-ok g c =
 
 pub returns-in-Some-clause-err : goal.returns-in-Some-clause-err
 returns-in-Some-clause-err g c =
-    IfErr-weaker c.take.result (RefusesAsked c.args.self.now c.in-Some.attribute c.args.found.now.value.now) (RefusesAttribute (rules_of g.F.Unicast.family c.args.self.now.asked) c.args.context c.args.width (all_values c.args.first.now c.args.self.now) (as_written c.args.found.now))
+    IfErr-weaker c.take.result (RefusesAsked c.args.self.now c.in-Some.attribute c.args.found.now.value.now) (RefusesAttribute (route_rules_of g.F.Unicast.family c.args.self.now.asked) c.args.context c.args.width (all_values c.args.first.now c.args.self.now) (as_written c.args.found.now))
     (refuses_kept g.F.Unicast.family c.args.context c.args.width (as_written c.args.found.now) c.args.first.now c.args.self.now c.in-Some.attribute (sym c.of_code.ensures ∙ c.in-Some.is)) c.take.ensures.err
 
 pub returns-in-None-clause-ok : goal.returns-in-None-clause-ok
@@ -20,5 +20,5 @@ returns-in-None-clause-ok g c =
 
 pub returns-in-None-clause-err : goal.returns-in-None-clause-err
 returns-in-None-clause-err g c =
-    IfErr-weaker c.take_found.result (RefusesAttribute (plain_rules g.F.Unicast.family) c.args.context c.args.width (kept_value c.args.first.now) (as_written c.args.found.now)) (RefusesAttribute (rules_of g.F.Unicast.family c.args.self.now.asked) c.args.context c.args.width (all_values c.args.first.now c.args.self.now) (as_written c.args.found.now))
+    IfErr-weaker c.take_found.result (RefusesAttribute (plain_rules g.F.Unicast.family) c.args.context c.args.width (kept_value c.args.first.now) (as_written c.args.found.now)) (RefusesAttribute (route_rules_of g.F.Unicast.family c.args.self.now.asked) c.args.context c.args.width (all_values c.args.first.now c.args.self.now) (as_written c.args.found.now))
     (refuses_plain g.F.Unicast.family c.args.self.now.asked c.args.context c.args.width (as_written c.args.found.now) c.args.first.now c.args.self.now (sym c.of_code.ensures ∙ c.in-None.is)) c.take_found.ensures.err

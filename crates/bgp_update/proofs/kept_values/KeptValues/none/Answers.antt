@@ -1,4 +1,4 @@
-use Rattle.std.proofs.Common.{[], refl}
+use Rattle.std.proofs.Common.{[]}
 use Rattle.bgp_update.proofs.KeptLaws.{no_kept_bytes, spelled_values-bytes}
 use Rattle.bgp_update.proofs.kept_values.KeptValues.none.Goals as goal
 

@@ -1,4 +1,4 @@
-use Rattle.std.proofs.Common.{rules, refl}
+use Rattle.std.proofs.Common.{rules}
 use Rattle.bgp_update.specs.declared.attribute_type.AttributeType.TheVariants.{Kept}
 use Rattle.bgp_update.specs.Values.{as_written, kept_value, plain_rules}
 use Rattle.bgp_update.proofs.FirstTaken.{takes_unasked, unasked}
