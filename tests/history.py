@@ -5,17 +5,19 @@ docs/FORMATS.md alone.
 usage: tests/history.py PROGRAM [DUMPS] [ipv4|ipv6]
 
 Each dump is of one family of routes, IPv4 or IPv6, by turns as its seed draws (of one alone where it is named), and is
-replayed by `--family` of that one; family ipv4 mostly without the option. It is drawn as a list of units (RIB entries,
-UPDATEs with attributes 14 and 15, state changes, messages of other types, damaged UPDATEs and entries) of a few peers
-and prefixes, with index tables, RIB records that are refused and RIB records of the other family between them, and
-written as MRT records into one to three files. The model takes what was drawn and not the bytes. Attributes 14 and 15
-are of either family, and of others; next hops have 4, 16 and 32 bytes; attribute 14 of a RIB entry has both forms, is
-repeated and damaged; bits past a prefix's length are set. An UPDATE of family ipv6 has anything in its own withdrawn
-and NLRI fields. Options are drawn too: --prefix in its forms, --peer, --peers, --since, --until, --states, --rib,
---same, --addresses. Of the lines of `peers` the place of the first unit isn't compared. What `churn` counts by --prefix
-and --since is compared with the lines of `history --same`, by peer and by what happened, and with the breaks, idle and
-damaged units that the model finds. The short texts of addresses are compared with Python's. The last line is
-`N passed, M failed`. Needs Python 3 and nothing else.
+replayed by `--family` of that one; family ipv4 mostly without the option. It is drawn as a list of units (RIB entries
+of TABLE_DUMP_V2 and of TABLE_DUMP, UPDATEs with attributes 14 and 15, state changes, messages of other types, damaged
+UPDATEs and entries) of a few peers and prefixes, with index tables, RIB records that are refused and RIB records of
+the other family between them, and written as MRT records into one to three files. The model takes what was drawn and
+not the bytes. Attributes 14 and 15 are of either family, and of others; next hops have 4, 16 and 32 bytes; attribute
+14 of a RIB entry has both forms, is repeated and damaged; bits past a prefix's length are set. An UPDATE of family
+ipv6 has anything in its own withdrawn and NLRI fields. State changes have the ends of their session as daemons write
+them: as a collector does, the other way round, without an AS number or an address, without a local end. Options are
+drawn too: --prefix in its forms, --peer, --peers, --since, --until, --states, --state-peers, --rib, --written-by with
+some of these beside it, --table-dump, --same, --addresses. Of the lines of `peers` the place of the first unit isn't
+compared. What `churn` counts by --prefix and --since is compared with the lines of `history --same`, by peer and by
+what happened, and with the breaks, idle and damaged units that the model finds. The short texts of addresses are
+compared with Python's. The last line is `N passed, M failed`. Needs Python 3 and nothing else.
 """
 import ipaddress
 import random
@@ -222,10 +224,19 @@ def record(draw, micros, subtype, body):
     return struct.pack(">IHHI", seconds, 16, subtype, len(body)) + body
 
 
+def session_bytes(peer, local, width=4):
+    """Both ends of a session, with AS numbers of so many bytes."""
+    return (peer[0].to_bytes(width, "big") + local[0].to_bytes(width, "big")
+            + struct.pack(">HH", 0, 1 if peer[1][0] == 32 else 2) + address_bytes(peer[1]) + address_bytes(local[1]))
+
+
+def collector(bits):
+    """The collector, at an address of so many bits."""
+    return 65535, (bits, address("192.0.2.254")[1])
+
+
 def session(peer):
-    bits = peer[1][0]
-    return (struct.pack(">IIHH", peer[0], 65535, 0, 1 if bits == 32 else 2) + address_bytes(peer[1])
-            + address_bytes((bits, address("192.0.2.254")[1])))
+    return session_bytes(peer, collector(peer[1][0]))
 
 
 def message(kind, body):
@@ -313,10 +324,27 @@ def drawn_update(draw, family, micros, peer):
             [(None, fault)] if fault else [])
 
 
+def drawn_ends(draw, peer):
+    """The peer and the local end of a session, as a state change has them."""
+    bits = peer[1][0]
+    own, zero = collector(bits), (bits, 0)
+    no_as = draw.choice([0, 23456])
+    return draw.choice([
+        (peer, own), (peer, own),  # as collectors write them
+        (own, peer), (own, (draw.choice(PEERS)[0], peer[1])),  # OpenBGPD, of a neighbour
+        (own, (no_as, peer[1])), (own, (no_as, peer[1])), (own, (no_as, zero)),  # without its AS number
+        ((peer[0], zero), own), ((peer[0], zero), own), ((64999, zero), (65535, zero)),  # BIRD, without a connection
+        (peer, (0, zero)), ((peer[0], zero), (0, zero)), (own, (0, zero)),  # a dump of tables
+    ])
+
+
 def drawn_state(draw, micros, peer):
+    """A state change: its unit has both ends in place of a peer."""
     old, new = draw.choice([(6, 1), (5, 6), (6, 6), (3, 4), (1, 6), (3, 8), (6, 7), (65535, 6), (0, 0)])
-    written = record(draw, micros, 5, session(peer) + struct.pack(">HH", old, new))
-    return [("state", peer, micros, old, new)], written, []
+    ends = drawn_ends(draw, peer)
+    is_narrow = max(asn for asn, _ in ends) < 65536 and draw.random() < 0.5
+    body = session_bytes(*ends, 2 if is_narrow else 4) + struct.pack(">HH", old, new)
+    return [("state", ends, micros, old, new)], record(draw, micros, 0 if is_narrow else 5, body), []
 
 
 def reach_of_entry(draw):
@@ -338,8 +366,17 @@ def reach_of_entry(draw):
                         b"\xff" + bytes(255)]), None
 
 
-def drawn_entry(draw, family):
-    """The attributes of a RIB entry, and its route or the fault."""
+def narrowed(draw, path, attributes):
+    """The same attributes with AS numbers of two bytes: 23456 stands for a greater one, and AS4_PATH has the path."""
+    numbers = b"".join(struct.pack(">H", asn if asn < 65536 else 23456) for asn in path)
+    whole = [(17, value) for code, value in attributes if code == 2 and max(path) > 65535]
+    narrow = [(code, value[:2] + numbers if code == 2 else value) for code, value in attributes]
+    place = draw.randrange(len(narrow) + 1)
+    return narrow[:place] + whole + narrow[place:]
+
+
+def drawn_entry(draw, family, width=4):
+    """The attributes of a RIB entry with AS numbers of so many bytes, and its route or the fault."""
     route = Route(draw)
     attributes, hop, fault = route.attributes(), route.hop, None
     draw.shuffle(attributes)
@@ -362,6 +399,8 @@ def drawn_entry(draw, family):
     if fault is None and draw.random() < 0.05:
         attributes = [(1, b"\3") if code == 1 else (code, value) for code, value in attributes]
         fault = 14, "BadAttribute(1)"
+    if width == 2:
+        attributes = narrowed(draw, route.path, attributes)
     return attribute_bytes(draw, attributes), fault, fault or route.with_hop(hop)
 
 
@@ -395,6 +434,31 @@ def drawn_entries(draw, family, micros, is_indexed):
     return [] if refusal else units, header + body, [(None, refusal)] if refusal else faults
 
 
+class Old(tuple):
+    """A unit of a TABLE_DUMP record, or a fault of one, which is there by --table-dump read alone."""
+
+
+def drawn_table_dump(draw, family, micros):
+    """A TABLE_DUMP record: its entry, or nothing where it is refused. Its time has whole seconds."""
+    key = family.key(draw.choice(family.prefixes))
+    peer = draw.choice([(asn if asn < 65536 else 23456, of) for asn, of in PEERS if of[0] == family.bits])
+    attributes, fault, route = drawn_entry(draw, family, 2)
+    number, length, refusal, bad = *key[:2], None, draw.random()
+    if draw.random() < 0.5:  # bits past the length
+        number |= draw.randrange(1 << (family.bits - length))
+    if bad < 0.05:
+        length, refusal = draw.choice([family.bits + 1, 255]), (9, "BadPrefix")
+    body = (draw.randbytes(4) + address_bytes((family.bits, number)) + bytes([length]) + draw.randbytes(5)
+            + address_bytes(peer[1]) + struct.pack(">HH", peer[0], len(attributes)) + attributes)
+    if 0.05 < bad < 0.1:
+        body, refusal = body + draw.randbytes(draw.randrange(1, 4)), (5, "TrailingBytes")
+    elif 0.1 < bad < 0.15:
+        body, refusal = body[:draw.randrange(len(body))], (4, "ShortRecord")
+    record_bytes = struct.pack(">IHHI", micros // 1_000_000, 12, family.afi, len(body)) + body
+    units = [] if refusal else [Old(("damaged" if fault else "entry", peer, micros, key, route))]
+    return units, record_bytes, [Old((None, refusal or fault))] if refusal or fault else []
+
+
 def index_table(is_damaged):
     peers = b"".join((b"\x02" if of[0] == 32 else b"\x03") + bytes(4) + address_bytes(of) + struct.pack(">I", asn)
                      for asn, of in PEERS)
@@ -417,9 +481,13 @@ def drawn_file(draw, family, count):
         peer = draw.choice(PEERS)
         if draw.random() < 0.1:  # a RIB record of the other family, which is aside
             data += drawn_entries(draw, OTHER[family], micros, is_indexed)[1]
+        if draw.random() < 0.05:
+            data += drawn_table_dump(draw, OTHER[family], micros)[1]
         what = draw.random()
         if what < 0.3:
             more, written, found = drawn_entries(draw, family, micros - micros % 1_000_000, is_indexed)
+        elif what < 0.4:
+            more, written, found = drawn_table_dump(draw, family, micros - micros % 1_000_000)
         elif what < 0.8:
             more, written, found = drawn_update(draw, family, micros, peer)
         elif what < 0.95:
@@ -428,12 +496,39 @@ def drawn_file(draw, family, count):
             written = record(draw, micros, 4, session(peer) + message(4, b""))
             more, found = [("other", peer, micros)], []
         units += more
-        faults += [(len(data), entry, fault) for entry, fault in found]
+        faults += [type(one)((len(data), *one)) for one in found]
         data += written
     return units, data, faults
 
 
 # ---- the model
+
+
+def whose(rule, known, peer, local):
+    """The peers whose state a state change is. Several stand by AS number and address, IPv4 first."""
+    if local[0] == 0 and local[1][1] == 0:
+        return [peer]
+    if rule == "local":
+        return sorted(one for one in known if one[1] == local[1]) if local[0] in (0, 23456) else [local]
+    if rule == "by-as" and peer[1][1] == 0:
+        return sorted(one for one in known if one[0] == peer[0])
+    return [peer]
+
+
+def told(units, rule):
+    """The units, of which each state change has one peer. A peer is known once an index table has named it or a unit
+    was its, whatever is selected."""
+    known, found = set(), []
+    for unit in units:
+        peers = []
+        if unit[0] == "state":
+            peers = whose(rule, known, *unit[1])
+            found += [("state", peer, *unit[2:]) for peer in peers]
+        else:
+            peers = PEERS if unit[0] == "index" else [unit[1]] if unit[1] is not None else []
+            found.append(unit)
+        known.update(peers)
+    return found
 
 
 def is_break(rule, old, new):
@@ -588,6 +683,11 @@ def share_of(peer, count):
     return ((peer[0] + peer[1][1]) * 2654435761 % 2**32) // 65536 % count
 
 
+# By which rules the dumps of daemons are read: state changes, whose they are, RIB dumps.
+DAEMONS = {"bird": ("established", "by-as", "add"), "frr": ("established", "recorded", "add"),
+           "openbgpd": ("recorded", "local", "add"), "gobgp": ("recorded", "recorded", "replace")}
+
+
 class Options:
     """Drawn options: their words, without --same and --since, and what they stand for."""
 
@@ -613,12 +713,10 @@ class Options:
             self.words += ["--peers", f"{share + 1}/{count}"]
             tests.append(lambda peer: share_of(peer, count) == share)
         self.takes_peer = lambda peer: all(test(peer) for test in tests)
-        self.rule = draw.choice(["recorded", "established"])
-        if self.rule == "established" or draw.random() < 0.2:
-            self.words += ["--states", self.rule]
-        self.ribs = draw.choice(["add", "replace"])
-        if self.ribs == "replace" or draw.random() < 0.2:
-            self.words += ["--rib", self.ribs]
+        self.draw_rules(draw)
+        self.table_dump = draw.choice(["aside", "read"])
+        if self.table_dump == "read" or draw.random() < 0.2:
+            self.words += ["--table-dump", self.table_dump]
         since = draw.randrange(1000, 1060)
         if draw.random() < 0.3:
             self.times = ["--since", str(since)]
@@ -626,6 +724,30 @@ class Options:
         if draw.random() < 0.3:
             self.until = draw.randrange(since, 1061)
             self.words += ["--until", str(self.until)]
+
+    def draw_rules(self, draw):
+        """Draws the rules that depend on who wrote a dump: where --written-by names them, they are given now and then,
+        before it or behind it."""
+        daemon = draw.choice([None, None, None, *DAEMONS])
+        fitting = DAEMONS.get(daemon, ("recorded", "recorded", "add"))
+        self.rule = draw.choice(["recorded", "established", fitting[0]])
+        self.state_peers = draw.choice(["recorded", "local", "by-as", fitting[1]])
+        self.ribs = draw.choice(["add", "replace", fitting[2]])
+        words = [["--written-by", daemon]] * (daemon is not None)
+        rules = self.rule, self.state_peers, self.ribs
+        for name, rule, fit in zip(("--states", "--state-peers", "--rib"), rules, fitting):
+            if rule != fit or draw.random() < 0.2:
+                words.append([name, rule])
+        draw.shuffle(words)
+        self.words += sum(words, [])
+
+    def reads(self, unit):
+        """Whether the record of a unit, or what stands between units, is read."""
+        return not isinstance(unit, Old) or self.table_dump == "read"
+
+    def has(self, unit):
+        """Whether a unit, or what stands between units, isn't past the last second."""
+        return self.until is None or unit[2] is None or unit[2] // 1_000_000 <= self.until
 
     def chooses(self, key):
         """Whether a key is one of the chosen prefixes, or none is named."""
@@ -698,15 +820,18 @@ def main():
             for i in range(draw.randrange(1, 4)):
                 more, data, found = drawn_file(draw, family, draw.randrange(1, 60))
                 units += more
-                faults += [f"{i + 1}|{at}|{entry or '-'}|{number}|{name}\n" for at, entry, (number, name) in found]
+                faults += [(isinstance(one, Old), f"{i + 1}|{one[0]}|{one[1] or '-'}|{one[2][0]}|{one[2][1]}\n")
+                           for one in found]
                 names.append(f"{folder}/{i}")
                 with open(names[-1], "wb") as file:
                     file.write(data)
-            results.append(is_as_wanted(seed, ["faults", *family.words(draw)], names, "".join(faults)))
+            for words, is_read in ([], False), (["--table-dump", "read"], True):
+                wanted = "".join(line for is_old, line in faults if is_read or not is_old)
+                results.append(is_as_wanted(seed, ["faults", *words, *family.words(draw)], names, wanted))
             for _ in range(4):
                 options = Options(draw, family)
-                kept = [unit for unit in units
-                        if options.until is None or unit[2] is None or unit[2] // 1_000_000 <= options.until]
+                read = told([unit for unit in units if options.reads(unit)], options.state_peers)
+                kept = [unit for unit in read if options.has(unit)]
                 listed = "".join(options.line(row) for row in history(kept, options) if options.takes(row))
                 for words, wanted, columns in [
                         (["history", *["--same"] * options.same, *options.times], listed, None),

@@ -126,7 +126,7 @@ static size_t an_attribute(const struct message *m, size_t *length) {
 static const u32 ODD[] = { 0, 1, 2, 3, 4, 5, 7, 8, 11, 12, 16, 18, 19, 22, 23, 24, 31, 32, 33, 63, 64, 127, 128, 254, 255, 256, 4095, 4096, 23456, 32767, 32768, 65534, 65535, 65536,
   16777215, 16777216, 16777217, 0x7FFFFFFF, 0x80000000u, 0xFFFFFFFEu, 0xFFFFFFFFu };
 static u32 odd(void) { return ODD[below(sizeof ODD / sizeof *ODD)]; }
-static const u8 FORMS[][2] = { {13,1},{13,2},{13,8},{13,4},{16,0},{16,1},{16,4},{16,5},{16,8},{16,9},{16,6},{16,10},{17,0},{17,1},{17,4},{17,5},{17,8},{17,9},{12,1},{48,0} };
+static const u8 FORMS[][2] = { {13,1},{13,2},{13,8},{13,4},{16,0},{16,1},{16,4},{16,5},{16,8},{16,9},{16,6},{16,10},{17,0},{17,1},{17,4},{17,5},{17,8},{17,9},{12,1},{12,2},{48,0} };
 
 /* Bytes of a drawn key: of IPv6 routes mostly where they are asked for. */
 static size_t a_key(u8 *made) {

@@ -2,9 +2,9 @@
 # Tries the notes on standard error, on the program as it is built: each one where its reason is, its absence where it isn't, five names at most, none
 # with --quiet, the same report and status with and without. What a note says is told here by what the dump was made of.
 #   tests/notes.sh PROGRAM
-# Needs bash and coreutils. The last line is `N passed, M failed`.
+# Where memory for notes is refused (refuse.c), a line says that they are missing. Needs bash, coreutils and cc. The last line is `N passed, M failed`.
 set -u
-program=$(realpath "$1"); work=$(mktemp -d); trap 'rm -rf "$work"' EXIT
+program=$(realpath "$1"); here=$(dirname "$(realpath "$0")"); work=$(mktemp -d); trap 'rm -rf "$work"' EXIT
 cd "$work" && ln -s "$program" bgp_replay || exit 2
 passed=0; failed=0
 right() { passed=$((passed + 1)); }
@@ -23,6 +23,9 @@ rib() {
   local first= second= size=00000040; [ "$2" = 0008 ] && first=00000001 second=00000002 size=00000048
   bytes "$1" 000D "$2" $size 00000000 080A 0002 "$3" 00000000 $first 0014 $attributes "$4" 00000000 $second 0014 $attributes
 }
+table_dump() { bytes "$1" 000C 0001 00000028 0000 0000 0A000000 08 01 00000000 "$2" FDE8 0012 4001010040020402 01FDE8400304C0000201; } # SECOND PEER, of 10.0.0.0/8
+table_dump6() { bytes "$1" 000C 0002 0000002E 0000 0000 20010DB8000000000000000000000000 20 01 00000000 20010DB8000000000000000000000001 FDE8 0000; } # SECOND
+other() { bytes "$1" "$2" "$3" 00000001 00; } # SECOND TYPE SUBTYPE
 rib6() { bytes "$1" 000D "$2" 0000000B 00000000 20 20010DB8 0000; } # SECOND SUBTYPE: of 2001:db8::/32, no entry
 
 run() { ./bgp_replay "$@" > out 2> said; status=$?; }
@@ -38,6 +41,9 @@ notes() { # NAME STATUS NOTES WORDS..
 }
 idle='units that changed nothing, since their peer wasn'"'"'t up'
 takes='--states established takes them'
+aside='no RIB record but those of TABLE_DUMP, which aren'"'"'t read'
+reads='--table-dump read takes them'
+unread='no unit, and records of types that aren'"'"'t read'
 empty='files without a whole record'
 early='files whose first record is older than that of the file named before'
 dumps='RIB dumps that add up in the tables, where routes of a former one stay'
@@ -75,7 +81,41 @@ notes 'IPv6 alone' 0 '  note: no RIB record of IPv4 routes, and 2 of IPv6 routes
 notes 'IPv6 beside messages' 0 '  note: no RIB record of IPv4 routes, and 4 of IPv6 routes, which aren'"'"'t read: six, six' tables six whole six
 notes 'IPv6 in seven files' 0 '  note: no RIB record of IPv4 routes, and 14 of IPv6 routes, which aren'"'"'t read: six, six, six, six, six and 2 more' tables six six six six six six six
 notes 'both families' 0 '' tables table six --until 0
-{ index 00000001; bytes 00000001 000D 0006 00000000; } > generic; notes 'neither family' 0 '' tables generic
+
+# ---- TABLE_DUMP records that are aside (RFC 6396, 4.2), and no other RIB record
+{ table_dump 00000001 C0000201; table_dump 00000001 C0000202; } > old; table_dump6 00000001 > old6
+for report in tables visibility origins seen churn peers history faults 'match --address 10.0.0.1' 'tables --table-dump aside'; do
+  notes "TABLE_DUMP: $report" 0 "  note: $aside: 2, in old; $reads" $report old
+done
+for report in tables churn peers history; do notes "TABLE_DUMP that is read: $report" 0 '' $report --table-dump read old; done
+notes 'TABLE_DUMP beside messages' 0 "  note: $aside: 4, in old, old; $reads" tables old whole old
+notes 'TABLE_DUMP in six files' 0 "  note: $aside: 12, in old, old, old, old, old and 1 more; $reads" tables old old old old old old
+notes 'TABLE_DUMP beside another RIB record' 0 '' tables old table
+notes 'TABLE_DUMP of IPv6' 0 "  note: $aside: 1, in old6; $reads" tables --family ipv6 old6
+notes 'TABLE_DUMP of IPv6 that is read' 0 '' tables --family ipv6 --table-dump read old6
+other6='no RIB record of IPv4 routes, and'
+notes 'TABLE_DUMP of the other family' 0 "  note: $other6 1 of IPv6 routes, which aren't read: old6" tables old6
+notes 'TABLE_DUMP of the other family, with the option' 0 "  note: $other6 1 of IPv6 routes, which aren't read: old6" tables --table-dump read old6
+notes 'TABLE_DUMP of both families' 0 "  note: $other6 1 of IPv6 routes, which aren't read: old6
+  note: $aside: 2, in old; $reads" tables old old6
+notes 'TABLE_DUMP of both families that is read' 0 '' tables --table-dump read old old6
+notes 'TABLE_DUMP begins no dump' 0 '' tables --table-dump read old table old
+
+# ---- records of types that aren't read, and no unit
+{ index 00000001; other 00000001 000D 0006; } > generic
+notes 'a generic RIB' 0 "  note: $unread: 1, in generic, of TABLE_DUMP_V2 RIB_GENERIC" tables generic
+for report in churn peers history faults visibility; do notes "a generic RIB: $report" 0 "  note: $unread: 1, in generic, of TABLE_DUMP_V2 RIB_GENERIC" $report generic; done
+notes 'a generic RIB beside a unit' 0 '' tables generic whole
+notes 'a generic RIB beside a unit that is not selected' 0 "  note: $unread: 1, in generic, of TABLE_DUMP_V2 RIB_GENERIC" tables --until 0 generic whole
+{ other 00000001 0010 0002; other 00000001 0010 0002; other 00000001 0011 0007; other 00000001 0030 0000; } > kinds
+notes 'three types' 0 "  note: $unread: 4, in kinds, of BGP4MP BGP4MP_ENTRY, BGP4MP_ET BGP4MP_MESSAGE_AS4_LOCAL, OSPFv3 0" tables kinds
+{ cat kinds; other 00000001 000B 0001; other 00000001 0063 0001; other 00000001 0064 0001; other 00000001 0065 0001; } > more
+notes 'seven types' 0 "  note: $unread: 8, in more, of BGP4MP BGP4MP_ENTRY, BGP4MP_ET BGP4MP_MESSAGE_AS4_LOCAL, OSPFv3 0, OSPFv2 1, 99 1 and others" tables more
+notes 'in two files' 0 "  note: $unread: 5, in kinds, generic, of BGP4MP BGP4MP_ENTRY, BGP4MP_ET BGP4MP_MESSAGE_AS4_LOCAL, OSPFv3 0, TABLE_DUMP_V2 RIB_GENERIC" tables kinds generic
+other 00000001 000C 0003 > third; notes 'TABLE_DUMP of no family' 0 "  note: $unread: 1, in third, of TABLE_DUMP 3" tables --table-dump read third
+notes 'TABLE_DUMP beside such a record' 0 "  note: $aside: 2, in old; $reads
+  note: $unread: 1, in generic, of TABLE_DUMP_V2 RIB_GENERIC" tables old generic
+notes 'TABLE_DUMP that is read beside such a record' 0 '' tables --table-dump read old generic
 
 # ---- files without a whole record
 : > none; head -c 20 whole > part; head -c 5 whole > stump; bytes 00000001 0010 0004 FFFFFFFF > long
@@ -127,6 +167,18 @@ notes 'several, with dumps that replace what came before' 0 "  note: $idle: 8, o
   note: $twice: 2, in repeated" tables --rib replace lost none ninth first repeated
 mkdir folder; run tables folder; grep -q '^  note: ' said && wrong 'a note beside a failure' || right
 run tables whole missing; grep -q '^  note: ' said && wrong 'a note beside a file that is missing' || right
+
+# ---- each growth of a run is refused, with all later ones: no report, or the report with its notes, or with the line that they are missing
+cc -O2 -shared -fPIC -o refuse.so "$here/refuse.c" || exit 2
+run tables --workers 1 none old; cp said told; missing='  note: notes are missing, since memory ran out'
+for ((growth = 1, without = 0; growth < 2000; growth++)); do
+  ON=1 REFUSE=$growth LD_PRELOAD=./refuse.so ./bgp_replay tables --workers 1 none old > out 2> said; status=$?
+  if [ $status = 0 ] && cmp -s said told; then break; fi
+  if [ $status = 3 ] && [ "$(head -n 1 said)" = 'no memory' ] && [ ! -s out ]; then right
+  elif [ $status = 0 ] && [ "$(cat said)" = "$missing" ]; then right; without=$((without + 1))
+  else wrong "growth $growth: status $status: $(cat said)"; fi
+done
+[ $growth -lt 2000 ] && [ $without -gt 0 ] && right || wrong "no run is without its notes: $growth growths, $without"
 
 echo "$passed passed, $failed failed"
 [ $failed = 0 ]

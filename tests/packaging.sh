@@ -89,7 +89,7 @@ completed() { # WORDS..: what bash offers for the last word
 offers() { local wanted=$1; shift; echo "offered: $(completed "$@")"; [ "$(completed "$@")" = "$wanted" ]; }
 check 'bash: a command' offers 'tables ' bgp_replay ta
 check 'bash: all commands' offers '--help --version churn faults help history match origins peers seen tables visibility ' bgp_replay ''
-check 'bash: an option' offers '--workers ' bgp_replay tables --w
+check 'bash: an option' offers '--workers ' bgp_replay tables --wo
 check 'bash: an option of match' offers '--address --addresses ' bgp_replay match --ad
 check 'bash: none of match for tables' offers '--addresses ' bgp_replay tables --ad
 check 'bash: attributes' offers 'originator otc ' bgp_replay tables --attributes o

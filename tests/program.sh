@@ -114,6 +114,7 @@ for words in nothing 'nothing sample' tables match 'match sample' 'match --addre
   'tables --until -1 sample' 'tables --until 18446744073709551616 sample' 'tables --until soon sample' 'tables --until' 'tables --frobnicate sample' 'tables -x sample' \
   'tables --until 2024-02-30 sample' 'tables --until 2024-1-1 sample' 'tables --until 2024-01-01T00:00:00 sample' 'tables --prefix' \
   'tables --prefix 192.0.2.0/24 --prefix 192.0.2.1/24 sample' 'tables --states' 'tables --states up sample' 'churn --states recorded,established sample' 'tables --rib' 'tables --rib sample' \
+  'tables --state-peers' 'tables --state-peers sample' 'tables --state-peers own sample' 'tables --written-by' 'tables --written-by sample' 'tables --written-by frr,bird sample' \
   'tables --addresses' 'tables --addresses long sample' 'churn --addresses Short sample' \
   'tables --address 10.0.0.1 sample' '--workers 2 tables sample' 'match --address 10.1.2 missing --workers 0'; do
   try 2 '?' nothing $words
@@ -164,6 +165,7 @@ told_prefix() { # FAMILY PREFIX WHY [LIKE]
   told "error: invalid value '$2' for '--prefix <PREFIX>': $3"$'\n'"$(may_be $example)${4:+$'\n'$4}" tables --family $1 --prefix $2 sample
 }
 told "error: invalid value 'ipv5' for '--family <FAMILY>': neither ipv4 nor ipv6" tables --family ipv5 sample
+told "error: invalid value 'quagga' for '--written-by <NAME>': no daemon whose dumps are known by this name"$'\n''  it may be bird, frr, openbgpd or gobgp' tables --written-by quagga sample
 told_prefix ipv4 2001:db8::/32 "no IPv4 address stands before its '/'" "$(like 6 prefix)"
 told_prefix ipv4 ::1/129+ "no IPv4 address stands before its '/'" "$(like 6 prefix)"
 told_prefix ipv4 192.0.2.1/24 'its address has bits past its length'
@@ -752,7 +754,7 @@ summary tables sample folder; holds '--summary after a failed read' "$(head -n 1
 
 # --progress: a line that is rewritten
 slowly() { head -c 3000000 large; sleep 0.6; tail -c +3000001 large | head -c 3000000; sleep 0.6; tail -c +6000001 large; }
-start=${EPOCHREALTIME//[!0-9]/}; slowly | ./bgp_replay churn --progress - > out 2> said; status=$?; micros=$((${EPOCHREALTIME//[!0-9]/} - start))
+start=${EPOCHREALTIME//[!0-9]/}; slowly | ./bgp_replay churn --quiet --progress - > out 2> said; status=$?; micros=$((${EPOCHREALTIME//[!0-9]/} - start))
 holds '--progress: its last line is cleared' "$(tail -c 1 said | od -An -tx1)" ' 0d'
 tr '\r' '\n' < said > lines
 if grep -qE '^[0-9]+ MB, standard input \(1 of 1\), [0-9]+ MB/s, 0 routes *$' lines; then right; else wrong "--progress: $(head -n 2 lines | tail -n 1)"; fi
@@ -762,7 +764,7 @@ tr -d '\r' < lines > said; grep -vE '^[0-9]+ MB, standard input \(1 of 1\), [0-9
 holds '--progress: nothing else' "$(wc -c < others)" 0
 [ "$(widest < lines)" -lt 80 ] && right || wrong "--progress: a line of $(widest < lines) columns"
 for width in 30 12; do
-  slowly | COLUMNS=$width ./bgp_replay churn --progress - 2>&1 > out | tr '\r' '\n' > lines
+  slowly | COLUMNS=$width ./bgp_replay churn --quiet --progress - 2>&1 > out | tr '\r' '\n' > lines
   most=$(widest < lines); [ "$most" -lt $width ] && [ "$most" -ge $((width - 2)) ] && right || wrong "--progress with $width columns: a line of $most"
 done
 for _ in {1..5000}; do cat sample; done > many

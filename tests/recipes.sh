@@ -10,7 +10,7 @@ program=$(realpath "$1"); top=$(dirname "$(dirname "$(realpath "$0")")"); work=$
 pages='README.md docs/USAGE.md docs/RECIPES.md'
 mkdir "$work/bin" "$work/dumps" && ln -s "$program" "$work/bin/bgp_replay" && cd "$work/dumps" || exit 2
 export PATH=$work/bin:$PATH LC_ALL=C
-cp "$top/examples/sample.mrt" rib.mrt && cp "$top/examples/updates.mrt" updates.mrt || exit 2
+cp "$top/examples/sample.mrt" rib.mrt && cp "$top/examples/updates.mrt" "$top/examples/table_dump.mrt" . || exit 2
 has() { case $1 in python3-*) python3 -c "import ${1#python3-}" > "$work/where" 2>&1 ;; *) command -v "$1" > "$work/where" ;; esac; }
 if has gzip; then gzip -9nc rib.mrt > bview.20261122.0700.gz; gzip -9nc updates.mrt > updates.20261122.0705.gz; cp bview.20261122.0700.gz rib.gz; fi
 if has bzip2; then bzip2 -c rib.mrt > rib.20261122.0700.bz2; bzip2 -c updates.mrt > updates.20261122.0700.bz2; fi

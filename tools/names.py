@@ -4,9 +4,9 @@
     tools/names.py --check   prints each that is wrong as FILE:LINE: NAME: why, and exits 1 if there is one
 
 What stands in backticks in docs/*.md, README.md, CONTRIBUTING.md and the comments of crates/*/src and crates/*/specs
-has to exist: a file; an option, a command or a target of make; `Type::member`; an edit or a row of a test; or a name
-that code, definitions or proofs declare. In a comment that is one of its file, of its crate, of the crates below, or of
-a crate that the comment names. What a row of docs/PROOFS.md says behind a name and a colon has to be a part of that: a
+has to exist: a file; an option, a value that completions offer, a command or a target of make; `Type::member`; an edit
+or a row of a test; or a name that code, definitions or proofs declare. In a comment that is one of its file, of its
+crate, of the crates below, or of a crate that the comment names. What a row of docs/PROOFS.md says behind a name and a colon has to be a part of that: a
 clause of a function, a field of a definition, an edit of a crate. And each source file of a library or of the program
 has to stand in exactly one row of the tables of files in docs/ARCHITECTURE.md, and each crate in one of that of crates.
 
@@ -158,12 +158,13 @@ class Repository:
             if name.startswith(("python/", "tools/")) and name.endswith(".py"):
                 self.options.update(re.findall(r"[\"']--([a-z][a-z-]*)[\"']", read(name)))
         self.commands = set(re.findall(r'^        name: "([a-z]+)",\n        meaning', options, re.M))
+        offered = {word for words in re.findall(r'^        offered: "([^"]*)"', options, re.M) for word in words.split()}
         self.targets = set(re.findall(r"^([a-z-]+):", makefile, re.M))
         self.outside = {word for text in OUTSIDE.values() for word in text.split()}
         bases = {os.path.basename(name) for name in self.files}
         self.endings = {os.path.splitext(name)[1] for name in bases} - {""} | {".bz2", ".gz"}
         self.everywhere = set().union(
-            self.said_by_programs(), self.outside, self.below, self.commands, self.options, bases,
+            self.said_by_programs(), self.outside, self.below, self.commands, self.options, offered, bases,
             {os.path.splitext(name)[0] for name in bases}, re.findall(r"^([A-Z]+) \??:?=", makefile, re.M),
         )
 

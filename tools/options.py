@@ -252,8 +252,8 @@ def short_meaning_of(option):
     """The first sentence, and then which values there are, or what the next one says of the value."""
     sentences = option["meaning"].split(". ")
     if option["offered"] and option["takes"][0] == "Text":
-        others = [value for value in option["offered"].split() if value != option["default"]]
-        return f"{sentences[0]}: `{option['default']}`, the default, or {' or '.join(f'`{value}`' for value in others)}"
+        values = [f"`{value}`, the default" if value == option["default"] else f"`{value}`" for value in option["offered"].split()]
+        return f"{sentences[0]}: {', '.join(values[:-1])}{',' if option['default'] else ''} or {values[-1]}"
     kept = ". ".join(sentences[: 2 if option["value"] else 1])
     return meaning_of({**option, "meaning": kept})
 
