@@ -33,6 +33,9 @@ def _words():
                           "for whole tables")
     for name in ("family", "rib", "states"):
         one.add_argument(f"--{name}", help="as of the program (bgp_replay history --help)")
+    for name in ("state-peers", "written-by"):
+        one.add_argument(f"--{name}", help="the same")
+    one.add_argument("--table-dump", dest="table_dumps", metavar="TABLE_DUMP", help="the same")
     one.add_argument("-o", "--output", required=True, metavar="FILE", help="the page; - is standard output")
     one.add_argument("files", nargs="+", metavar="DUMP", help="MRT dumps, plain or packed, in order of time")
     return words

@@ -153,6 +153,22 @@ def sample():
     return [str(TOP / "examples/sample.mrt"), str(TOP / "examples/updates.mrt")]
 
 
+@pytest.fixture(scope="session")
+def table_dump():
+    return str(TOP / "examples/table_dump.mrt")
+
+
+@pytest.fixture(scope="session")
+def openbgpd(tmp_path_factory):
+    """An UPDATE of 64502 198.51.100.102, and the end of its session as OpenBGPD writes it, with itself as the peer."""
+    file = tmp_path_factory.mktemp("openbgpd") / "dump"
+    file.write_bytes(bytes.fromhex(
+        "00000001 0010 0004 00000041 0000FBF6 0000FBF0 0000 0001 C6336466 C0000204" + "FF" * 16 +
+        "002D 02 0000 0014 40010100 4002060201 0000FBF6 400304 C6336466 080A"
+        "00000002 0011 0000 00000018 00000000 FBF0 FBF6 0000 0001 C0000204 C6336466 0006 0001"))
+    return str(file)
+
+
 @pytest.fixture
 def stand_in(tmp_path, monkeypatch):
     """Takes a shell script's place for the program, which the script finds in $REAL."""

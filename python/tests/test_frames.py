@@ -74,6 +74,42 @@ def test_rib_dumps_by_either_rule(sample):
         frame_of("tables", files, rib="other")
 
 
+def test_table_dumps_by_either_rule(table_dump):
+    """examples/README.md: three entries, of which the first has AS numbers of four bytes in AS4_PATH."""
+    for rule in None, "aside":
+        with pytest.warns(bgp_replay.NoteWarning, match="those of TABLE_DUMP, which aren't read: 3, .*--table-dump read"):
+            assert frame_of("tables", table_dump, table_dumps=rule).empty
+    found = frame_of("tables", table_dump, table_dumps="read")
+    assert found[["peer_asn", "prefix", "as_path"]].values.tolist() == [
+        [65003, "198.51.100.0/24", "65003 200104 196618"], [65003, "203.0.113.0/24", "65003 64500 64496"],
+        [65101, "203.0.113.0/24", "65101 64496"]]
+    for report, rows in ("visibility", 2), ("seen", 2), ("churn", 2), ("peers", 2), ("history", 3), ("faults", 0):
+        assert len(frame_of(report, table_dump, table_dumps="read")) == rows
+    found = frame_of("match", table_dump, address="203.0.113.9", table_dumps="read")
+    assert found["as_path"].tolist() == ["65003 64500 64496", "65101 64496"]
+    with pytest.raises(bgp_replay.UsageError, match="neither aside nor read"):
+        frame_of("tables", table_dump, table_dumps="other")
+
+
+def test_state_changes_of_the_local_end(openbgpd):
+    """docs/FORMATS.md, rule 19: by local the neighbour's session ended, and its route is gone."""
+    itself, neighbour = [64496, "down", 0, 1], [64502, "up", 1, 1]
+    for options, found in [({}, [neighbour, itself]), ({"state_peers": "recorded"}, [neighbour, itself]),
+                           ({"state_peers": "by-as"}, [neighbour, itself]),
+                           ({"state_peers": "local"}, [[64502, "down", 0, 2]]),
+                           ({"written_by": "openbgpd"}, [[64502, "down", 0, 2]]),
+                           ({"written_by": "openbgpd", "state_peers": "recorded"}, [neighbour, itself]),
+                           ({"written_by": "bird", "state_peers": "local"}, [[64502, "down", 0, 2]])]:
+        frame = frame_of("peers", openbgpd, **options)
+        assert frame[["peer_asn", "state", "routes", "units"]].values.tolist() == found
+    assert frame_of("tables", openbgpd, written_by="openbgpd").empty
+    assert frame_of("history", openbgpd, written_by="openbgpd")["what"].tolist() == ["new", "lost"]
+    with pytest.raises(bgp_replay.UsageError, match="neither recorded, local nor by-as"):
+        frame_of("tables", openbgpd, state_peers="other")
+    with pytest.raises(bgp_replay.UsageError, match="no daemon whose dumps are known by this name"):
+        frame_of("tables", openbgpd, written_by="other")
+
+
 def test_a_long_list_of_prefixes(sample):
     """131,072 prefixes are more than a command line takes."""
     prefixes = [f"17.{second}.{third}.0/24" for second in range(256) for third in range(256)] * 2
