@@ -14,6 +14,7 @@ _bgp_replay() {
     --state-peers) mapfile -t COMPREPLY < <(compgen -W 'recorded local by-as' -- "$word"); return;;
     --rib) mapfile -t COMPREPLY < <(compgen -W 'add replace' -- "$word"); return;;
     --table-dump) mapfile -t COMPREPLY < <(compgen -W 'aside read' -- "$word"); return;;
+    --errors) mapfile -t COMPREPLY < <(compgen -W 'skip rfc7606' -- "$word"); return;;
     --written-by) mapfile -t COMPREPLY < <(compgen -W 'bird frr openbgpd gobgp' -- "$word"); return;;
     --format) mapfile -t COMPREPLY < <(compgen -W 'text json' -- "$word"); return;;
     --addresses) mapfile -t COMPREPLY < <(compgen -W 'full short' -- "$word"); return;;
@@ -25,7 +26,7 @@ _bgp_replay() {
   if [[ -z $command ]]; then
     mapfile -t COMPREPLY < <(compgen -W "$commands help --help --version" -- "$word")
   elif [[ $word == -* ]]; then
-    local options='--files-from --family --prefix --prefixes --peer --peers --until --states --state-peers --rib --table-dump --written-by --format --addresses --attributes --header --summary --progress --quiet --workers --ring --help --version'
+    local options='--files-from --family --prefix --prefixes --peer --peers --until --states --state-peers --rib --table-dump --errors --written-by --format --addresses --attributes --header --summary --progress --quiet --workers --ring --help --version'
     case $command in match) options="--address $options";; esac
     case $command in tables|visibility|origins|seen|churn|peers|match|history) options="--origin $options";; esac
     case $command in tables|visibility|origins|seen|churn|peers|match|history) options="--path $options";; esac

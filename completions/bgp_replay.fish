@@ -28,6 +28,7 @@ complete -c bgp_replay -n $some -l states -x -a 'recorded established' -d 'say w
 complete -c bgp_replay -n $some -l state-peers -x -a 'recorded local by-as' -d 'say whose state a state change is'
 complete -c bgp_replay -n $some -l rib -x -a 'add replace' -d 'say what a RIB dump does to the routes before it'
 complete -c bgp_replay -n $some -l table-dump -x -a 'aside read' -d 'say what is done with TABLE_DUMP records, as RIB dumps from before about 2008 and OpenBGPD\'s dump table have them'
+complete -c bgp_replay -n $some -l errors -x -a 'skip rfc7606' -d 'say what is done about damaged messages and RIB entries'
 complete -c bgp_replay -n $some -l written-by -x -a 'bird frr openbgpd gobgp' -d 'take the rules that fit the dumps of this daemon'
 complete -c bgp_replay -n $some -l format -x -a 'text json' -d 'say how lines are written: fields with | between them, or JSON, one object a line'
 complete -c bgp_replay -n $some -l addresses -x -a 'full short' -d 'say how IPv6 addresses are printed, those of peers and of next hops alike'

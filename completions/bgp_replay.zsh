@@ -30,6 +30,7 @@ _bgp_replay() {
         '--state-peers[say whose state a state change is]:RULE:(recorded local by-as)'
         '--rib[say what a RIB dump does to the routes before it]:RULE:(add replace)'
         '--table-dump[say what is done with TABLE_DUMP records, as RIB dumps from before about 2008 and OpenBGPD'\''s dump table have them]:RULE:(aside read)'
+        '--errors[say what is done about damaged messages and RIB entries]:RULE:(skip rfc7606)'
         '--written-by[take the rules that fit the dumps of this daemon]:NAME:(bird frr openbgpd gobgp)'
         '--format[say how lines are written\: fields with | between them, or JSON, one object a line]:FORM:(text json)'
         '--addresses[say how IPv6 addresses are printed, those of peers and of next hops alike]:FORM:(full short)'

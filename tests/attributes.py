@@ -6,8 +6,8 @@ usage: tests/attributes.py PROGRAM [DUMPS]
 Rows are spelled here, of both families, two-octet and four-octet messages and RIB entries: each form of a member's text,
 each wrong length, repeats, absent attributes, names in any order, lists that add up, and arguments that are refused.
 DUMPS (200) drawn dumps have announcements and RIB entries of one peer with attributes that are drawn, damaged ones
-too; a model written from docs/FORMATS.md (3.9) says what `tables`, `churn`, `history` and `faults` print of them for
-attributes that are drawn. The last line is `N passed, M failed`. Needs Python 3 and nothing else.
+too, over external and internal sessions; a model written from docs/FORMATS.md (3.9 and 5) says what `tables`, `churn`,
+`history` and `faults` print of them for attributes that are drawn, by either rule on damage. The last line is `N passed, M failed`. Needs Python 3 and nothing else.
 """
 import ipaddress
 import os
@@ -80,10 +80,10 @@ def record(second, kind, subtype, body):
     return struct.pack(">IHHI", second, kind, subtype, len(body)) + body
 
 
-def message(second, attributes, *, withdrawn=b"", keys=b"", is_wide=True):
+def message(second, attributes, *, withdrawn=b"", keys=b"", is_wide=True, local=64999):
     body = struct.pack(">H", len(withdrawn)) + withdrawn + struct.pack(">H", len(attributes)) + attributes + keys
     update = b"\xff" * 16 + struct.pack(">HB", 19 + len(body), 2) + body
-    peer = struct.pack(">II" if is_wide else ">HH", 65001, 64999)
+    peer = struct.pack(">II" if is_wide else ">HH", 65001, local)
     return record(second, 16, 4 if is_wide else 1, peer + struct.pack(">HH", 0, 1) + bytes([192, 0, 2, 1, 192, 0, 2, 254]) + update)
 
 
@@ -176,6 +176,8 @@ def lengths(files):
                 found = files.run(f"faults --attributes {name}{words}", file)
                 files.expect(f"{name} of {length} bytes", (found[0], found[1].split("|")[3:]), (1, ["14", f"BadAttribute({code})\n"]))
                 files.lines(f"tables --attributes {name}{words}", [], file, status=1)
+                is_absent = name in ("originator", "clusters") and not file.startswith(index())  # RFC 7606, 7.9 and 7.10
+                files.lines(f"tables --errors rfc7606 --attributes {name}{words}", [f"{front}|-"] * is_absent, file, status=1)
                 files.lines(f"tables{words}", [front], file)
                 files.lines(f"faults{words}", [], file)
             # The first counts, and others aren't checked.
@@ -237,36 +239,41 @@ def drawn_value(draw, name):
     return b"".join(draw.choice([bytes(size), b"\0\2" + draw.randbytes(size - 2), draw.randbytes(size)]) for _ in range(count))
 
 
-def drawn_dump(draw, asked):
-    """Messages and entries, and what they come to: the table, the counts, the rows and the faults."""
+def drawn_dump(draw, asked, is_handled):
+    """Messages and entries, and what they come to: the table, the counts, the rows and the faults. By RFC 7606 an
+    external peer's ORIGINATOR_ID and CLUSTER_LIST that are malformed count as absent, and else the key is withdrawn."""
     pool = [[(name, drawn_value(draw, name)) for name in draw.choices(NAMES, k=draw.randrange(5))] for _ in range(6)]
     data, table, counts, told, faults = index(), {}, {what: 0 for what in ("new", "changed", "same", "gone", "void", "refused")}, [], []
+
+    def tell(what, by, route):
+        counts[what] += 1
+        told.append((second, what, by, prefix, route))
+
     for number in range(draw.randrange(1, 40)):
         second, prefix = 1000 + number, draw.randrange(3)
         attributes, key = draw.choice(pool), bytes([8, prefix + 10])
         at = len(data)
         if draw.random() < 0.2:
             data += message(second, b"", withdrawn=key)
-            what = "gone" if prefix in table else "void"
-            counts[what] += 1
-            told.append((second, what, "update", prefix, table.pop(prefix, None)))
+            tell("gone" if prefix in table else "void", "update", table.pop(prefix, None))
             continue
         spelled = b"".join(attribute(ATTRIBUTES[name][0], value) for name, value in attributes)
-        is_entry = draw.random() < 0.3
-        data += entry(second, ROUTE + spelled, key, 2) if is_entry else message(second, ROUTE + spelled, keys=key, is_wide=draw.random() < 0.7)
-        first, bad = {}, None
-        for name, value in attributes:
-            if name in asked and name not in first and bad is None:
-                first[name] = value
-                bad = None if is_formed(name, value) else ATTRIBUTES[name][0]
-        if bad is not None:
+        is_entry, local = draw.random() < 0.3, draw.choice([64999, 64999, 65001])
+        data += entry(second, ROUTE + spelled, key, 2) if is_entry else message(second, ROUTE + spelled, keys=key, is_wide=draw.random() < 0.7, local=local)
+        first = dict((name, value) for name, value in reversed(attributes) if name in asked)
+        bad = [name for name, _ in attributes if name in asked and not is_formed(name, first[name])]
+        if bad:
             counts["refused"] += 1
-            faults.append(f"1|{at}|{'1' if is_entry else '-'}|14|BadAttribute({bad})")
-            continue
-        what = "new" if prefix not in table else "same" if table[prefix] == first else "changed"
-        counts[what] += 1
-        table[prefix] = first
-        told.append((second, what, "rib" if is_entry else "update", prefix, first))
+            faults.append(f"1|{at}|{'1' if is_entry else '-'}|14|BadAttribute({ATTRIBUTES[bad[0]][0]})")
+            if is_entry or not is_handled:
+                continue
+            if local == 65001 or not set(bad) <= {"originator", "clusters"}:
+                tell("gone" if prefix in table else "void", "update", table.pop(prefix, None))
+                continue
+        route = {name: value for name, value in first.items() if name not in bad}
+        what = "new" if prefix not in table else "same" if table[prefix] == route else "changed"
+        table[prefix] = route
+        tell(what, "rib" if is_entry else "update", route)
     return data, table, counts, told, faults
 
 
@@ -274,8 +281,10 @@ def drawn(files, count):
     for seed in range(count):
         draw = random.Random(seed)
         asked = draw.choice([NAMES, draw.sample(NAMES, draw.randrange(1, 6)), []])
-        data, table, counts, told, faults = drawn_dump(draw, asked)
+        is_handled = draw.random() < 0.4
+        data, table, counts, told, faults = drawn_dump(draw, asked, is_handled)
         words = f" --attributes {','.join(asked)}" if asked else ""
+        words += " --errors rfc7606" if is_handled else draw.choice(["", " --errors skip"])
         columns = [name for name in NAMES if name in asked]
         status = int(bool(faults))
         line = lambda route: "".join("|" + text_of(name, (route or {}).get(name)) for name in columns)

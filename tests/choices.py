@@ -9,7 +9,8 @@ positions of a path one by one, a `*` by trying each number of them. What `match
 --same`. Where a choice asks for communities, the whole run is one by `--attributes` of their kinds. Each is asked by
 one worker and by four; `tables` also as JSON and by shares of the peers, and the rows of tests/rows packed.
 DUMPS (20) drawn dumps have routes of both families with paths of all four kinds of segments, empty and absent ones,
-and communities of all three kinds, damaged ones too, in messages and RIB entries, withdrawals and state changes. Each
+and communities of all three kinds, damaged ones too, in messages and RIB entries, withdrawals and state changes, by
+either rule on damage. Each
 route has a MED of its own, by which its line is known: what is matched is what was drawn, and not the text. The
 other dumps are those of examples/ and python/tests/dumps, each row of tests/rows, and the files in the directory that
 the variable SAMPLES names; there the routes are read from the text. Choices are drawn, mostly from the routes that a
@@ -420,6 +421,7 @@ def path_bytes(path, is_wide=True):
 
 
 PEERS = [(65001, "192.0.2.1"), (65001, "192.0.2.2"), (70000, "2001:db8::7"), (4200000000, "192.0.2.9")]
+INTERNAL = PEERS[1]
 PREFIXES = {
     1: ["0.0.0.0/0", "10.0.0.0/8", "10.64.0.0/10", "10.64.7.0/24", "192.0.2.128/25"],
     2: ["::/0", "2001:db8::/32", "2001:db8:8000::/33", "2001:db8:0:7::/64"],
@@ -436,7 +438,7 @@ def prefix_bytes(text):
 
 def session(peer, is_wide):
     asn, address = peer[0], ipaddress.ip_address(peer[1])
-    asns = struct.pack(">II", asn, 64999) if is_wide else struct.pack(">HH", asn, 64999)
+    asns = struct.pack(">II" if is_wide else ">HH", asn, asn if peer == INTERNAL else 64999)
     return asns + struct.pack(">HH", 1, 1 if address.version == 4 else 2) + address.packed + bytes(len(address.packed))
 
 
@@ -521,6 +523,8 @@ class Drawn:
                 found[code] = b"".join(some)
             if draw.random() < 0.03:
                 found[code] = bytes(draw.choice([0, 3, 13]))
+        if draw.random() < 0.06:
+            found[draw.choice([1, 5, 6, 7])] = bytes(5)
         positions = origin = None
         if path is not None:
             positions = [frozenset(part) for kind, numbers in path
@@ -571,6 +575,7 @@ def try_drawn(checks, pool, folder, count):
             more = draw.choice([[], [], ["--until", str(1000 + draw.randrange(40))], ["--states", "established"],
                                 ["--rib", "replace"], ["--prefix", draw.choice(PREFIXES[afi]) + draw.choice(["", "+", "-"])],
                                 ["--peer", "65001"]])
+            more += draw.choice([[], [], ["--errors", "rfc7606"]])
             dump = Dump(checks, [name], ["--family", family, *more], drawn.route_of)
             for _ in range(3):
                 choice = drawn_choice(draw, list(drawn.routes.values()))

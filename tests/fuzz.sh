@@ -7,7 +7,7 @@
 # workers with a ring of 1 or 1,024 or reads of one byte give other bytes or another status, or where it takes more than 128 MB or
 # 120 seconds. Odd seeds are tried with --rib replace, each third one with --attributes all, the second and third of
 # each four with --table-dump read, of each five two with --state-peers local and by-as and one with --written-by bird,
-# and all without notes. The address space is bound to 4 GB (`ulimit -v`). Dumps are made of examples/sample.mrt, three generated ones, and the files in the directory that the variable SAMPLES names; a seed's dump is the
+# three of each nine with --errors rfc7606, and all without notes. The address space is bound to 4 GB (`ulimit -v`). Dumps are made of examples/sample.mrt, three generated ones, and the files in the directory that the variable SAMPLES names; a seed's dump is the
 # same where these are the same.
 # Needs cc. A run that fails is printed behind its seed. The last line is `N passed, M failed`, counted in runs.
 set -u
@@ -29,7 +29,8 @@ rib_of() { [ $(($1 % 2)) = 0 ] || echo --rib replace; } # SEED
 attributes_of() { [ $(($1 % 3)) != 0 ] || echo --attributes all; } # SEED
 table_dump_of() { [ $(($1 / 2 % 2)) = 0 ] || echo --table-dump read; } # SEED
 peers_of() { case $(($1 % 5)) in 1) echo --state-peers local;; 2) echo --state-peers by-as;; 3) echo --written-by bird;; esac; } # SEED
-options_of() { echo --quiet $asked $(rib_of "$1") $(attributes_of "$1") $(table_dump_of "$1") $(peers_of "$1"); } # SEED
+errors_of() { [ $(($1 / 3 % 3)) != 1 ] || echo --errors rfc7606; } # SEED
+options_of() { echo --quiet $asked $(rib_of "$1") $(attributes_of "$1") $(table_dump_of "$1") $(peers_of "$1") $(errors_of "$1"); } # SEED
 make_dump() { LC_ALL=C; ./mutate $damages "$1" 40000 dumps/* > "$2"; }
 try() { # SEED
   make_dump "$1" "seed-$1" || { echo "seed $1: no dump"; return; }
@@ -40,7 +41,7 @@ if [ -n "$alone" ]; then
   make_dump "$alone" "$from/fuzz-$alone.mrt" || exit 2
   cd "$from" && "$work/same" -b "$work/refuse.so" -v 4096 -m 128 "$program" "fuzz-$alone.mrt" $(options_of "$alone") | tee "$work/lines"
 else
-  export -f try make_dump options_of rib_of attributes_of table_dump_of peers_of; export program asked damages
+  export -f try make_dump options_of rib_of attributes_of table_dump_of peers_of errors_of; export program asked damages
   seq "$first" $((first + files - 1)) | xargs -P "$(nproc)" -n 10 bash -c 'for seed; do try $seed; done' try > lines
   cd "$work" || exit 2
   grep -v '^tried ' lines

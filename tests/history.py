@@ -7,14 +7,15 @@ usage: tests/history.py PROGRAM [DUMPS] [ipv4|ipv6]
 Each dump is of one family of routes, IPv4 or IPv6, by turns as its seed draws (of one alone where it is named), and is
 replayed by `--family` of that one; family ipv4 mostly without the option. It is drawn as a list of units (RIB entries
 of TABLE_DUMP_V2 and of TABLE_DUMP, UPDATEs with attributes 14 and 15, state changes, messages of other types, damaged
-UPDATEs and entries) of a few peers and prefixes, with index tables, RIB records that are refused and RIB records of
+UPDATEs and entries) of a few peers, external and internal ones, and prefixes, with index tables, RIB records that are refused and RIB records of
 the other family between them, and written as MRT records into one to three files. The model takes what was drawn and
 not the bytes. Attributes 14 and 15 are of either family, and of others; next hops have 4, 16 and 32 bytes; attribute
 14 of a RIB entry has both forms, is repeated and damaged; bits past a prefix's length are set. An UPDATE of family
-ipv6 has anything in its own withdrawn and NLRI fields. State changes have the ends of their session as daemons write
+ipv6 has anything in its own withdrawn and NLRI fields. Attributes are missing, repeated, malformed, several of one
+message too, and cut off, with others behind them. State changes have the ends of their session as daemons write
 them: as a collector does, the other way round, without an AS number or an address, without a local end. Options are
 drawn too: --prefix in its forms, --peer, --peers, --since, --until, --states, --state-peers, --rib, --written-by with
-some of these beside it, --table-dump, --same, --addresses. Of the lines of `peers` the place of the first unit isn't
+some of these beside it, --table-dump, --errors, --same, --addresses. Of the lines of `peers` the place of the first unit isn't
 compared. What `churn` counts by --prefix and --since is compared with the lines of `history --same`, by peer and by
 what happened, and with the breaks, idle and damaged units that the model finds. The short texts of addresses are
 compared with Python's. The last line is `N passed, M failed`. Needs Python 3 and nothing else.
@@ -127,39 +128,99 @@ HOPS = [[address(text) for text in texts.split()] for texts in
 # ---- what is drawn
 
 
-class Route:
-    """A route, and its path attributes as types and values."""
+# What --errors rfc7606 does about a fault, whatever the rest of the message is.
+ABSENT, ABSENT_IF_EXTERNAL, WITHDRAWN, SKIPPED = "absent", "absent if external", "withdrawn", "skipped"
 
-    def __init__(self, draw):
-        self.path = [draw.choice([64500, 64501, 4200000009]) for _ in range(draw.randrange(1, 3))]
-        self.hop = [address(draw.choice(["192.0.2.9", "192.0.2.10"]))] if draw.random() < 0.9 else []
-        self.med = draw.choice([None, None, 0, 7])
-        self.atomic = draw.random() < 0.2
 
-    def with_hop(self, hop):
-        """What two routes are compared by: next hop, path and the rest."""
-        return tuple(hop), tuple(self.path), self.med, self.atomic
+class Written:
+    """A path attribute: its type, its value, what it says, and what is wrong with it: a fault and what is done about
+    it, or None."""
 
-    def attributes(self):
-        path = b"".join(struct.pack(">I", asn) for asn in self.path)
-        parts = [(1, b"\0"), (2, bytes([2, len(self.path)]) + path)]
-        if self.hop:
-            parts.append((3, address_bytes(self.hop[0])))
-        if self.med is not None:
-            parts.append((4, struct.pack(">I", self.med)))
-        if self.atomic:
-            parts.append((6, b""))
-        return parts
+    def __init__(self, code, value, says=None, flaw=None):
+        self.code, self.value, self.says, self.flaw = code, value, says, flaw
+
+
+def path_bytes(path, form):
+    return bytes([2, len(path)]) + b"".join(struct.pack(form, asn) for asn in path)
+
+
+def number_attribute(code, number):
+    return Written(code, struct.pack(">I", number), number)
+
+
+def drawn_attributes(draw):
+    """Attributes of types 1 to 7 as they should be. None says the same in another way, so that what is said of a route
+    is what two are compared by."""
+    path = tuple(draw.choice([64500, 64501, 4200000009]) for _ in range(draw.randrange(1, 3)))
+    hop, aggregator = address(draw.choice(["192.0.2.9", "192.0.2.10"])), address("203.0.113.1")
+    med, preference = draw.choice([0, 7]), draw.choice([100, 4294967295])
+    return [one for one, chance in [
+        (Written(1, b"\0", "IGP"), 0.97), (Written(2, path_bytes(path, ">I"), path), 0.97),
+        (Written(3, address_bytes(hop), (hop,)), 0.9), (number_attribute(4, med), 0.5),
+        (number_attribute(5, preference), 0.2), (Written(6, b"", "atomic"), 0.2),
+        (Written(7, struct.pack(">I", 64500) + address_bytes(aggregator), "64500 203.0.113.1"), 0.2),
+    ] if draw.random() < chance]
+
+
+def malformed(draw):
+    """An attribute of types 1 to 7 with a value that it can't have."""
+    code, values, deed = draw.choice([
+        (1, [b"", b"\3", b"\xff", b"\0\0"], WITHDRAWN),
+        (2, [b"\5\1" + bytes(4), b"\0\1" + bytes(4), b"\2\0", b"\2", b"\2\xff\0\0\0\1"], WITHDRAWN),
+        (3, [bytes(size) for size in (0, 3, 5, 16)], WITHDRAWN), (4, [bytes(size) for size in (0, 3, 5)], WITHDRAWN),
+        *[(5, [bytes(size) for size in (0, 3, 5)], ABSENT_IF_EXTERNAL)] * 3, (6, [b"\0", bytes(4)], ABSENT),
+        (7, [bytes(size) for size in (0, 5, 7, 9)], ABSENT)])
+    fault = (15, "BadPath") if code == 2 else (14, f"BadAttribute({code})")
+    return Written(code, draw.choice(values), None, (fault, deed))
+
+
+def one_attribute(draw, code, value):
+    if len(value) > 255 or draw.random() < 0.3:
+        return bytes([0x90, code]) + struct.pack(">H", len(value)) + value
+    return bytes([0x40, code, len(value)]) + value
 
 
 def attribute_bytes(draw, attributes):
-    parts = []
-    for code, value in attributes:
-        if len(value) > 255 or draw.random() < 0.3:
-            parts.append(bytes([0x90, code]) + struct.pack(">H", len(value)) + value)
-        else:
-            parts.append(bytes([0x40, code, len(value)]) + value)
-    return b"".join(parts)
+    return b"".join(one_attribute(draw, one.code, one.value) for one in attributes)
+
+
+def cut_off(draw, attributes):
+    """A last attribute that runs past the field, with others in its value or with no whole length, and its type if
+    that is there."""
+    code = draw.choice([1, 3, 5, 7, 8, 14, 15, 99])
+    if draw.random() < 0.4:
+        return draw.choice([(b"\x40", None), (bytes([0x40, code]), code), (bytes([0x90, code, 0]), code)])
+    behind = attribute_bytes(draw, attributes)
+    return bytes([0x90, code]) + struct.pack(">H", len(behind) + draw.choice([1, 2, 300])) + behind, code
+
+
+def written_field(draw, attributes, is_cut):
+    """The attributes in their order: those that can be read, the field's bytes, and what is wrong with the one that
+    can't be read, if there is one."""
+    if not is_cut:
+        return attributes, attribute_bytes(draw, attributes), []
+    place = draw.randrange(len(attributes) + 1)
+    last, code = cut_off(draw, attributes[place:])
+    flaw = (13, "ShortAttribute"), SKIPPED if code in (14, 15) else WITHDRAWN
+    return attributes[:place], attribute_bytes(draw, attributes[:place]) + last, [flaw]
+
+
+def read_attributes(attributes, is_message):
+    """What the first attribute of each type says, and what is wrong with attributes, in order. A later one counts where
+    it is a second 14 or 15 of a message."""
+    first, flaws = {}, []
+    for one in attributes:
+        if one.code not in first:
+            first[one.code] = one.says
+            flaws += [one.flaw] if one.flaw else []
+        elif is_message and one.code in (14, 15):
+            flaws.append(((14, f"BadAttribute({one.code})"), SKIPPED))
+    return first, flaws
+
+
+def route_of(first, hop):
+    """What two routes are compared by, with this next hop."""
+    return (tuple(hop), *(first.get(code) for code in (2, 1, 4, 5, 6, 7)))
 
 
 def hop_bytes(hop):
@@ -248,44 +309,36 @@ def some_keys(draw, family, most, add_path):
             for _ in range(draw.randrange(most))]
 
 
-def spoil(draw, family, attributes, add_path):
-    """Damages the attributes of an UPDATE in one way, which is returned as number and name of the fault."""
-    def put(code, *values):
-        attributes[:] = [one for one in attributes if one[0] != code] + [(code, value) for value in values]
-
-    hop = hop_bytes(draw.choice(HOPS))
-    good = key_bytes(draw, family, some_keys(draw, family, 3, add_path), add_path)
-    kind = draw.randrange(10)
-    if kind == 0:
-        put(1, b"\3")
-        return 14, "BadAttribute(1)"
-    if kind == 1:  # also where NEXT_HOP is no next hop
-        put(3, bytes(draw.choice([0, 3, 5, 16])))
-        return 14, "BadAttribute(3)"
+def malformed_multiprotocol(draw, family, add_path):
+    """Attributes 14, or attributes 15, of an UPDATE with which something is wrong."""
+    next_hop, keys = draw.choice(HOPS), some_keys(draw, family, 3, add_path)
+    hop, good = hop_bytes(next_hop), key_bytes(draw, family, keys, add_path)
+    kind = draw.randrange(6)
+    if kind < 2:  # as they should be, but for being two
+        code, own = draw.choice([(14, (reach(family, hop, good), (keys, next_hop))), (15, (unreach(family, good), keys))])
+        return [Written(code, *draw.choice([own, (foreign(draw, family),)])) for _ in range(2)]
     if kind in (2, 3):
-        put(14, reach(family, hop, good + bad_key(draw, family, add_path)))
-        return 9, "BadPrefix"
-    if kind in (4, 5):
-        put(15, unreach(family, good + bad_key(draw, family, add_path)))
-        return 9, "BadPrefix"
-    if kind == 6:
-        put(14, *[draw.choice([reach(family, hop, good), foreign(draw, family)]) for _ in range(2)])
-        return 14, "BadAttribute(14)"
-    if kind == 7:
-        put(15, *[draw.choice([unreach(family, good), foreign(draw, family)]) for _ in range(2)])
-        return 14, "BadAttribute(15)"
-    if kind == 8:
-        put(15, draw.choice([b"", b"\0", struct.pack(">H", family.afi)]))
-        return 14, "BadAttribute(15)"
+        bad = good + bad_key(draw, family, add_path)
+        code, value = draw.choice([(14, reach(family, hop, bad)), (15, unreach(family, bad))])
+        return [Written(code, value, None, ((9, "BadPrefix"), SKIPPED))]
     whole = struct.pack(">HB", family.afi, 1)
-    put(14, draw.choice([b"", b"\0", whole[:2], whole, whole + b"\x10" + bytes(15), whole + b"\4" + bytes(4),
-                         *[reach(family, bytes(size), good) for size in (0, 5, 8, 24, 33, 48)]]))
-    return 14, "BadAttribute(14)"
+    code, values = (15, [b"", b"\0", whole[:2]]) if kind == 4 else (
+        14, [b"", b"\0", whole[:2], whole, whole + b"\x10" + bytes(15), whole + b"\4" + bytes(4),
+             *[reach(family, bytes(size), good) for size in (0, 5, 8, 24, 33, 48)]])
+    return [Written(code, draw.choice(values), None, ((14, f"BadAttribute({code})"), SKIPPED))]
+
+
+def spoil(draw, family, attributes, add_path):
+    """Puts up to three attributes that have faults in the place of others or beside them."""
+    for _ in range(draw.choice([0, 1, 1, 1, 2, 3])):
+        put = [malformed(draw)] if draw.random() < 0.6 else malformed_multiprotocol(draw, family, add_path)
+        if put[0].code in (14, 15) or draw.random() < 0.7:
+            attributes[:] = [one for one in attributes if one.code != put[0].code]
+        attributes += put
 
 
 def drawn_update(draw, family, micros, peer):
-    add_path = draw.random() < 0.25
-    route = Route(draw)
+    add_path, is_internal = draw.random() < 0.25, draw.random() < 0.4
 
     def sometimes(most, chance):
         return some_keys(draw, family, most, add_path) if draw.random() < chance else []
@@ -297,31 +350,53 @@ def drawn_update(draw, family, micros, peer):
         withdrawn, announced, own = [], [], [loose(draw), loose(draw)]
     chance = 0.4 if family.has_own_fields else 0.8
     reached, unreached, hop = sometimes(4, chance), sometimes(3, chance), draw.choice(HOPS)
-    attributes = route.attributes()
+    attributes = drawn_attributes(draw)
     if reached or draw.random() < 0.1:
-        attributes.append((14, reach(family, hop_bytes(hop), key_bytes(draw, family, reached, add_path))))
+        value = reach(family, hop_bytes(hop), key_bytes(draw, family, reached, add_path))
+        attributes.append(Written(14, value, (reached, hop)))
     elif draw.random() < 0.3:
-        attributes.append((14, foreign(draw, family)))
+        attributes.append(Written(14, foreign(draw, family)))
     if unreached or draw.random() < 0.1:
-        attributes.append((15, unreach(family, key_bytes(draw, family, unreached, add_path))))
+        attributes.append(Written(15, unreach(family, key_bytes(draw, family, unreached, add_path)), unreached))
     elif draw.random() < 0.3:
-        attributes.append((15, foreign(draw, family)))
+        attributes.append(Written(15, foreign(draw, family)))
     if not announced and not reached and not unreached and draw.random() < 0.5:
         attributes = []
-    fault = spoil(draw, family, attributes, add_path) if draw.random() < 0.1 else None
-    if fault is None and family.has_own_fields and draw.random() < 0.03:
-        own[draw.randrange(2)] += bad_key(draw, family, add_path)
-        fault = 9, "BadPrefix"
+    is_spoiled = draw.random() < 0.25
+    if is_spoiled:
+        spoil(draw, family, attributes, add_path)
     draw.shuffle(attributes)
-    if fault:
-        unit = ("damaged", peer, micros, None)
-    else:
-        plain = [(key, route.with_hop(route.hop)) for key in announced]
-        unit = ("update", peer, micros, withdrawn + unreached, plain + [(key, route.with_hop(hop)) for key in reached])
-    written = attribute_bytes(draw, attributes)
-    body = struct.pack(">H", len(own[0])) + own[0] + struct.pack(">H", len(written)) + written + own[1]
-    return ([unit], record(draw, micros, 9 if add_path else 4, session(peer) + message(2, body)),
-            [(None, fault)] if fault else [])
+    whole, field, cut = written_field(draw, attributes, is_spoiled and draw.random() < 0.25)
+    first, flaws = read_attributes(whole, True)
+    flaws += cut
+    if family.has_own_fields and draw.random() < 0.03:
+        place = draw.randrange(2)
+        own[place] += bad_key(draw, family, add_path)
+        flaws.insert(0 if place == 0 else len(flaws), ((9, "BadPrefix"), SKIPPED))
+    body = struct.pack(">H", len(own[0])) + own[0] + struct.pack(">H", len(field)) + field + own[1]
+    reached, hop = first.get(14) or ([], ())
+    routes = [(key, route_of(first, first.get(3) or ())) for key in announced]
+    routes += [(key, route_of(first, hop)) for key in reached]
+    unit = update_unit(peer, micros, withdrawn + (first.get(15) or []), routes, lacks(first, announced, reached), flaws, is_internal)
+    local = (peer[0] if is_internal else 65535, collector(peer[1][0])[1])
+    return ([unit], record(draw, micros, 9 if add_path else 4, session_bytes(peer, local) + message(2, body)),
+            [(None, flaws[0][0])] if flaws else [])
+
+
+def lacks(first, announced, reached):
+    """Whether announcements lack what they must have. What is malformed says nothing."""
+    return ((bool(announced or reached) and (first.get(1) is None or first.get(2) is None))
+            or (bool(announced) and first.get(3) is None))
+
+
+def update_unit(peer, micros, withdrawn, routes, is_lacking, flaws, is_internal):
+    """The unit of an UPDATE: what it does, and whether --errors rfc7606 takes its announcements as withdrawals; of a
+    damaged one what that does, if it does anything."""
+    deeds = [WITHDRAWN if deed == ABSENT_IF_EXTERNAL and is_internal else deed for _, deed in flaws]
+    update = ("update", peer, micros, withdrawn, routes, is_lacking or WITHDRAWN in deeds)
+    if not flaws:
+        return update
+    return "damaged", peer, micros, None, None if SKIPPED in deeds else update
 
 
 def drawn_ends(draw, peer):
@@ -366,42 +441,54 @@ def reach_of_entry(draw):
                         b"\xff" + bytes(255)]), None
 
 
-def narrowed(draw, path, attributes):
-    """The same attributes with AS numbers of two bytes: 23456 stands for a greater one, and AS4_PATH has the path."""
-    numbers = b"".join(struct.pack(">H", asn if asn < 65536 else 23456) for asn in path)
-    whole = [(17, value) for code, value in attributes if code == 2 and max(path) > 65535]
-    narrow = [(code, value[:2] + numbers if code == 2 else value) for code, value in attributes]
-    place = draw.randrange(len(narrow) + 1)
-    return narrow[:place] + whole + narrow[place:]
+def narrowed(draw, attributes):
+    """The same attributes with AS numbers of two bytes: 23456 stands for a greater one, and AS4_PATH has the path. One
+    AGGREGATOR that is as it should be would have AS4_PATH ignored: there is none."""
+    narrow = []
+    for one in attributes:
+        if one.code == 2 and one.says:
+            numbers = [asn if asn < 65536 else 23456 for asn in one.says]
+            narrow.append(Written(2, path_bytes(numbers, ">H"), one.says))
+            if max(one.says) > 65535:
+                narrow.insert(draw.randrange(len(narrow) + 1), Written(17, path_bytes(one.says, ">I")))
+        elif one.code != 7 or one.flaw:
+            narrow.append(one)
+    return narrow
 
 
 def drawn_entry(draw, family, width=4):
-    """The attributes of a RIB entry with AS numbers of so many bytes, and its route or the fault."""
-    route = Route(draw)
-    attributes, hop, fault = route.attributes(), route.hop, None
+    """The attributes of a RIB entry with AS numbers of so many bytes, the fault or None, and the route that it has, or
+    has by --errors rfc7606, or None."""
+    attributes = drawn_attributes(draw)
+    if is_spoiled := draw.random() < 0.1:
+        for one in [malformed(draw) for _ in range(draw.choice([0, 1, 1, 2]))]:
+            if one.code == 2 or draw.random() < 0.7:  # of two paths AS4_PATH would be that of one
+                attributes = [other for other in attributes if other.code != one.code]
+            attributes.append(one)
     draw.shuffle(attributes)
     values = []
     if draw.random() < (0.3 if family.has_own_fields else 0.85):
         values = [reach_of_entry(draw)]
         while draw.random() < 0.2:  # repeats, which aren't looked at
             values.append((draw.choice([b"", loose(draw), reach_of_entry(draw)[0]]), None))
-    if not family.has_own_fields:
-        hop = values[0][1] if values else []
-        fault = (14, "BadAttribute(14)") if hop is None else None
-    for place, (value, _) in zip(sorted(draw.randrange(len(attributes) + 1) for _ in values), values):
-        attributes.insert(place, (14, value))
-    if len(values) > 1:  # in their order
-        places = [at for at, one in enumerate(attributes) if one[0] == 14]
-        for place, (value, _) in zip(places, values):
-            attributes[place] = (14, value)
+    for place, (value, hop) in zip(sorted((draw.randrange(len(attributes) + 1) for _ in values), reverse=True), values[::-1]):
+        is_bad = hop is None and not family.has_own_fields
+        attributes.insert(place, Written(14, value, hop, ((14, "BadAttribute(14)"), SKIPPED) if is_bad else None))
     if draw.random() < 0.1:
-        attributes.append((15, loose(draw)))
-    if fault is None and draw.random() < 0.05:
-        attributes = [(1, b"\3") if code == 1 else (code, value) for code, value in attributes]
-        fault = 14, "BadAttribute(1)"
+        attributes.append(Written(15, loose(draw)))
     if width == 2:
-        attributes = narrowed(draw, route.path, attributes)
-    return attribute_bytes(draw, attributes), fault, fault or route.with_hop(hop)
+        attributes = narrowed(draw, attributes)
+    whole, field, cut = written_field(draw, attributes, is_spoiled and draw.random() < 0.25)
+    first, flaws = read_attributes(whole, False)
+    flaws += cut
+    is_skipped = any(deed != ABSENT for _, deed in flaws)
+    route = route_of(first, first.get(3 if family.has_own_fields else 14) or ())
+    return field, flaws[0][0] if flaws else None, None if is_skipped else route
+
+
+def entry_unit(peer, micros, key, fault, route):
+    entry = ("entry", peer, micros, key, route)
+    return ("damaged", peer, micros, key, entry if route else None) if fault else entry
 
 
 def drawn_entries(draw, family, micros, is_indexed):
@@ -414,7 +501,7 @@ def drawn_entries(draw, family, micros, is_indexed):
         identifier = draw.choice([0, 1, 5]) if add_path else 0
         attributes, fault, route = drawn_entry(draw, family)
         key = (prefix[0], prefix[1], identifier)
-        units.append(("damaged" if fault else "entry", PEERS[index], micros, key, route))
+        units.append(entry_unit(PEERS[index], micros, key, fault, route))
         entries.append(struct.pack(">HI", index, 900) + (struct.pack(">I", identifier) if add_path else b"")
                        + struct.pack(">H", len(attributes)) + attributes)
         if fault:
@@ -455,7 +542,7 @@ def drawn_table_dump(draw, family, micros):
     elif 0.1 < bad < 0.15:
         body, refusal = body[:draw.randrange(len(body))], (4, "ShortRecord")
     record_bytes = struct.pack(">IHHI", micros // 1_000_000, 12, family.afi, len(body)) + body
-    units = [] if refusal else [Old(("damaged" if fault else "entry", peer, micros, key, route))]
+    units = [] if refusal else [Old(entry_unit(peer, micros, key, fault, route))]
     return units, record_bytes, [Old((None, refusal or fault))] if refusal or fault else []
 
 
@@ -548,6 +635,17 @@ def announced(table, key, route):
     return (what, key, route)
 
 
+def taken(unit, options):
+    """What a unit is taken as by the rule on damage: what is handled as what it does then, and an UPDATE all of whose
+    keys are withdrawn as that."""
+    if options.errors == "rfc7606":
+        if unit[0] == "damaged":
+            unit = unit[4] or unit
+        if unit[0] == "update" and unit[5]:
+            return (*unit[:3], unit[3] + [key for key, _ in unit[4]], [])
+    return unit
+
+
 def events_of(unit, table, up, rule):
     """What a unit does to the keys of its peer, in order."""
     kind = unit[0]
@@ -561,10 +659,10 @@ def events_of(unit, table, up, rule):
         return [announced(table, unit[3], unit[4])]
     events = []
     if kind == "update":
-        _, _, _, withdrawn, routes = unit
-        taken = {key for key, _ in routes}
+        withdrawn, routes = unit[3:5]
+        routed = {key for key, _ in routes}
         for key in withdrawn:
-            if key not in taken:
+            if key not in routed:
                 events.append(("gone", key, table.pop(key)) if key in table else ("void", key, None))
         events += [announced(table, key, route) for key, route in routes]
     return events
@@ -584,8 +682,9 @@ def history(units, options):
                     tables[peer].clear()
             is_first = kind == "index"
             continue
-        by = {"entry": "rib", "state": "state"}.get(kind, "update")
-        events = events_of(unit, tables.setdefault(peer, {}), up.get(peer, True), rule)
+        done = taken(unit, options)
+        by = {"entry": "rib", "state": "state"}.get(done[0], "update")
+        events = events_of(done, tables.setdefault(peer, {}), up.get(peer, True), rule)
         rows += [(micros, peer, what, by, key, route) for what, key, route in events]
         if kind == "state":
             up[peer] = is_up_after(rule, unit[4])
@@ -717,6 +816,9 @@ class Options:
         self.table_dump = draw.choice(["aside", "read"])
         if self.table_dump == "read" or draw.random() < 0.2:
             self.words += ["--table-dump", self.table_dump]
+        self.errors = draw.choice(["skip", "skip", "rfc7606"])
+        if self.errors != "skip" or draw.random() < 0.2:
+            self.words += ["--errors", self.errors]
         since = draw.randrange(1000, 1060)
         if draw.random() < 0.3:
             self.times = ["--since", str(since)]
@@ -769,10 +871,10 @@ class Options:
         """The columns of a route. IPv6 next hops of family ipv6 are always short."""
         if route is None:
             return "-|-|-|-|-|-|-"
-        hop, path, med, atomic = route
+        hop, path, *rest = route
         hops = " ".join(address_text(one, self.is_short or self.family is IPV6) for one in hop) or "-"
-        rest = ["IGP", "-" if med is None else str(med), "-", "atomic" if atomic else "-", "-"]
-        return "|".join([" ".join(map(str, path)), hops, *rest])
+        return "|".join(["-" if path is None else " ".join(map(str, path)), hops,
+                         *("-" if one is None else str(one) for one in rest)])
 
     def line(self, row):
         micros, peer, what, by, key, route = row
@@ -827,6 +929,7 @@ def main():
                     file.write(data)
             for words, is_read in ([], False), (["--table-dump", "read"], True):
                 wanted = "".join(line for is_old, line in faults if is_read or not is_old)
+                words += draw.choice([[], ["--errors", "skip"], ["--errors", "rfc7606"]])  # which lists the same
                 results.append(is_as_wanted(seed, ["faults", *words, *family.words(draw)], names, wanted))
             for _ in range(4):
                 options = Options(draw, family)

@@ -5,13 +5,13 @@ usage: tests/json.py PROGRAM [DUMPS]
 
 The lines that are wanted are made here of `--addresses short`, by docs/USAGE.md: keys and their order, null for `-`,
 the origin AS of a path. Dumps are those of examples/ and python/tests/dumps, each row of tests/rows, DUMPS (12) drawn
-ones of each family, and the files in the directory that the variable SAMPLES names. Each is asked by either family,
-with all attributes and with none, with `--same` and `--since`, by one worker and by several with a short ring; those of
-the repository also packed. Status and standard error have to be those of the text. Each line is also read by Python's
-`json`, which has to find the keys of its report, once each and in order, with values of their types. The lines of
-tests/rows/json.rows, worked out by hand, have to be those that are made here, too. Then what `--format` refuses, that
-`text` is the default, and what has no effect on JSON. The last line is `N passed, M failed`. Needs Python 3 and nothing
-else.
+ones of each family, every third by --errors rfc7606, and the files in the directory that the variable SAMPLES names.
+Each is asked by either family, with all attributes and with none, with `--same` and `--since`, by one worker and by
+several with a short ring; those of the repository also packed. Status and standard error have to be those of the text.
+Each line is also read by Python's `json`, which has to find the keys of its report, once each and in order, with values
+of their types. The lines of tests/rows/json.rows, worked out by hand, have to be those that are made here, too. Then
+what `--format` refuses, that `text` is the default, and what has no effect on JSON. The last line is `N passed, M
+failed`. Needs Python 3 and nothing else.
 """
 import os
 import sys
@@ -350,7 +350,8 @@ def drawn_dump(draw, family):
     data = []
     for number in range(draw.randrange(1, 30)):
         time = 1_600_000_000_000_000 + number * draw.choice([0, 1, 999_999, 1_000_000])
-        head = struct.pack(">II", draw.choice([1, 4_200_000_000]), 65001) + draw.choice(SESSIONS)
+        asn = draw.choice([1, 4_200_000_000])
+        head = struct.pack(">II", asn, draw.choice([65001, 65001, asn])) + draw.choice(SESSIONS)
         if draw.random() < 0.05:
             data.append(record(time, 5, head + draw.choice([b"\0\6\0\1", b"\0\1\0\6"])))
             continue
@@ -361,7 +362,7 @@ def drawn_dump(draw, family):
         is_withdrawn, is_own = draw.random() < 0.2, family == "ipv4" and draw.random() < 0.5
         attributes = b"" if is_withdrawn else drawn_attributes(draw, afi, b"" if is_own else key)
         if draw.random() < 0.1:
-            attributes += attribute(1, b"\7")  # damaged where it is the first of its type
+            attributes += attribute(draw.choice([1, 5, 6, 7]), b"\7")  # damaged where it is the first of its type
         if is_withdrawn and not is_own:
             attributes += attribute(15, struct.pack(">HB", afi, 1) + key)
         withdrawn = key if is_own and is_withdrawn else b""
@@ -390,8 +391,9 @@ def try_drawn(checks, pool, folder, count):
         name = f"{folder}/drawn-{seed}"
         with open(name, "wb") as file:
             file.write(drawn_dump(random.Random(seed), family))
+        errors = ["--errors", "rfc7606"] * (seed // 2 % 3 == 1)
         for words in questions([family], [looked_up[place]], "1600000003"):
-            pool.submit_(checks.compare, words, [name])
+            pool.submit_(checks.compare, [*words, *errors], [name])
 
 
 def try_rows(checks, pool, folder):

@@ -49,6 +49,12 @@ early='files whose first record is older than that of the file named before'
 dumps='RIB dumps that add up in the tables, where routes of a former one stay'
 anew='--rib replace clears the tables at each'
 twice='RIB records without path identifiers that name a peer twice'
+silent='peers of which nothing came but state changes'
+local='--state-peers local takes these for those of other peers'
+unheard='chosen peers of which nothing came'
+unmet='no chosen prefix is announced or withdrawn'
+again='peers that sent an End-of-RIB marker again, without a state change between'
+stays='what they had before stays'
 
 # ---- none
 update 00000001 C0000201 > whole
@@ -62,7 +68,7 @@ done
 for report in tables churn peers history faults 'churn --since 0' 'tables --prefix 10.0.0.0/8'; do
   notes "idle: $report" 0 "  note: $idle: 2, of 65000 192.0.2.1 (2); $takes" $report lost
 done
-notes 'idle, not of another prefix' 0 '' tables --prefix 11.0.0.0/8 lost
+notes 'idle, not of another prefix' 0 "  note: $unmet" tables --prefix 11.0.0.0/8 lost
 notes 'idle, not before a second' 0 "  note: $idle: 1, of 65000 192.0.2.1 (1); $takes" churn --since 3 lost
 for peer in 1 2 3 4 5 6 7; do states 00000001 C000020$peer 0006 0001; update 00000002 C000020$peer; done > seven
 named=; for peer in 1 2 3 4 5; do named+="${named:+, }65000 192.0.2.$peer (1)"; done
@@ -74,6 +80,78 @@ v6=20010DB8000000000000000000000001
 session6="0000FDE8 0000FDE9 0000 0002 $v6 $v6"
 { bytes 00000001 0010 0005 00000030 $session6 0006 0001; bytes 00000002 0010 0004 00000059 $session6 $marker 002D 02 0000 0014 $attributes 080A; } > over6
 notes 'idle over IPv6' 0 "  note: $idle: 1, of 65000 2001:0db8:0000:0000:0000:0000:0000:0001 (1); $takes" tables over6
+
+# ---- state changes alone, of a peer that isn't established: OpenBGPD writes itself, and BIRD no address
+{ update 00000001 C0000201; states 00000002 C0000204 0006 0001; } > own
+for report in tables visibility origins seen churn peers history faults 'match --address 10.0.0.1' 'tables --state-peers recorded' 'tables --peer 65000'; do
+  notes "state changes alone: $report" 0 "  note: $silent: 1, 65000 192.0.2.4; $local" $report own
+done
+for rule in local by-as; do notes "state changes alone, by $rule" 0 '' tables --state-peers $rule own; done
+notes 'state changes alone, by a daemon' 0 '' tables --written-by openbgpd own
+notes 'state changes alone, of chosen prefixes' 0 '' tables --prefix 10.0.0.0/8 own
+notes 'state changes alone, not counted' 0 '' churn --since 2 own
+notes 'state changes alone, of chosen routes' 0 "  note: $silent: 1, 65000 192.0.2.4; $local" history --origin 65001 own
+notes 'state changes alone, not yet' 0 '' tables --until 1 own
+{ update 00000001 C0000201; states 00000002 C0000204 0005 0001; } > never; notes 'never established' 0 "  note: $silent: 1, 65000 192.0.2.4; $local" tables never
+{ cat own; states 00000003 C0000204 0005 0006; } > anew; notes 'established again' 0 '' tables anew
+{ cat own; update 00000003 C0000204; } > sent; notes 'behind the end' 0 "  note: $idle: 1, of 65000 192.0.2.4 (1); $takes" tables sent
+{ update 00000001 C0000204; cat own; } > began; notes 'before the end' 0 '' tables began
+{ update 00000001 C0000201; states 00000002 00000000 0006 0001; } > gone
+notes 'state changes alone, without an address' 0 "  note: $silent: 1, 65000 0.0.0.0; --state-peers by-as takes these for those of other peers" tables gone
+notes 'state changes alone, without an address, by a daemon' 0 '' tables --written-by bird gone
+{ update 00000001 C0000201; for peer in 2 3 4 5 6 7 8; do states 00000002 C000020$peer 0006 0001; done; } > ends
+for workers in 1 3; do
+  notes "state changes alone, of seven, by $workers" 0 "  note: $silent: 7, 65000 192.0.2.2, 65000 192.0.2.3, 65000 192.0.2.4, 65000 192.0.2.5, 65000 192.0.2.6 and 2 more; $local" tables --workers $workers ends
+done
+
+# ---- chosen peers of which nothing came, and chosen prefixes
+for report in tables churn peers history faults; do
+  notes "no such peer: $report" 0 "  note: $unheard: 65009, 65000,192.0.2.9, 65000,2001:0db8:0000:0000:0000:0000:0000:0001" $report --peer 65009 --peer 65000,192.0.2.1 --peer 65000,192.0.2.9 --peer 65000,2001:db8::1 whole
+done
+notes 'chosen peers' 0 '' tables --peer 65000 --peer 65000,192.0.2.1 whole
+notes 'no such peer yet' 0 "  note: $unheard: 65000" tables --peer 65000 --until 0 whole
+notes 'seven such peers' 0 "  note: $unheard: 1, 2, 3, 4, 5 and 2 more" tables --peer 1 --peer 2 --peer 3 --peer 4 --peer 5 --peer 6 --peer 7 whole
+notes 'of a share' 0 '' tables --peer 65009 --peers 1/2 whole
+for report in tables visibility origins seen churn peers history faults 'match --address 10.0.0.1' 'tables --origin 65001' 'history --origin 65001'; do
+  notes "no such prefix: $report" 0 "  note: $unmet" $report --prefix 11.0.0.0/8 --prefix 12.0.0.0/7+ whole
+done
+notes 'one of two prefixes' 0 '' tables --prefix 11.0.0.0/8 --prefix 10.0.0.0/7+ whole
+for report in tables churn history; do notes "of another origin: $report" 0 '' $report --prefix 10.0.0.0/8 --origin 65001 whole; done
+notes 'a prefix from a second on' 0 '' churn --prefix 11.0.0.0/8 --since 2 whole
+bytes 00000001 0010 0004 0000002D "$(session C0000201)" $marker 0019 02 0002 080A 0000 > withdrawn
+for report in tables churn history; do notes "a withdrawn prefix: $report" 0 '' $report --prefix 10.0.0.0/8 withdrawn; done
+notes 'a prefix of a peer that is not up' 0 "  note: $idle: 2, of 65000 192.0.2.1 (2); $takes" tables --prefix 10.0.0.0/8 lost
+notes 'neither peer nor prefix' 0 "  note: $unheard: 65009
+  note: $unmet" tables --peer 65009 --prefix 11.0.0.0/8 whole
+
+# ---- End-of-RIB markers (RFC 4724, 2): again with no state change between
+end() { bytes "$1" 0010 0004 0000002B "$(session "$2")" $marker 0017 02 0000 0000; } # SECOND PEER, of IPv4
+end6() { bytes "$1" 0010 0004 00000031 "$(session "$2")" $marker 001D 02 0000 0006 800F03000201; } # SECOND PEER, of IPv6
+long6() { bytes "$1" 0010 0004 00000032 "$(session "$2")" $marker 001E 02 0000 0007 900F0003000201; } # with a length of two bytes
+{ update 00000001 C0000201; end 00000002 C0000201; } > once; end 00000003 C0000201 > twice
+notes 'one End-of-RIB marker' 0 '' tables once
+for report in tables visibility origins seen churn peers history faults 'match --address 10.0.0.1' 'tables --prefix 10.0.0.0/8' 'tables --workers 3' 'churn --since 2'; do
+  notes "two End-of-RIB markers: $report" 0 "  note: $again: 1, 65000 192.0.2.1; $stays" $report once twice
+done
+notes 'four End-of-RIB markers' 0 "  note: $again: 1, 65000 192.0.2.1; $stays" tables once twice twice twice
+{ states 00000002 C0000201 0006 0001; states 00000002 C0000201 0005 0006; } > restarted; notes 'a session between' 0 '' tables once restarted twice
+states 00000002 C0000202 0005 0006 > other; notes 'a state change of another peer' 0 "  note: $again: 1, 65000 192.0.2.1; $stays" tables once other twice
+states 00000002 00000000 0005 0006 > unnamed; notes 'a state change of the peer by another rule' 0 '' tables --state-peers by-as once unnamed twice
+end 00000003 C0000202 > beside; notes 'one of each peer' 0 '' tables once beside
+notes 'of a peer that is not chosen' 0 '' tables --peer 65000,192.0.2.1 once beside beside
+notes 'past the last second' 0 '' tables --until 2 once twice
+for peer in 1 2 3 4 5 6 7; do end 00000002 C000020$peer; end 00000002 C000020$peer; done > restarts
+notes 'seven peers with two' 0 "  note: $again: 7, 65000 192.0.2.1, 65000 192.0.2.2, 65000 192.0.2.3, 65000 192.0.2.4, 65000 192.0.2.5 and 2 more; $stays" tables restarts
+{ end6 00000002 C0000201; long6 00000002 C0000201; } > ends6
+notes 'two of IPv6' 0 "  note: $again: 1, 65000 192.0.2.1; $stays" tables --family ipv6 ends6
+notes 'two of the other family' 0 '' tables ends6
+notes 'two of the other family, for IPv6' 0 '' tables --family ipv6 once twice
+bytes 00000001 0010 0004 00000032 "$(session C0000201)" $marker 001E 02 0000 0007 800F0400020100 > default6
+notes 'withdrawals of a default route of IPv6' 0 '' tables --family ipv6 default6 default6
+bytes 00000001 0010 0004 00000031 "$(session C0000201)" $marker 001D 02 0000 0006 800F03000202 > multicast
+notes 'two of multicast routes' 0 '' tables --family ipv6 multicast multicast
+bytes 00000001 0010 0004 00000027 "$(session C0000201)" $marker 0013 04 > alive; notes 'KEEPALIVE messages' 0 '' tables alive alive
+bytes 00000001 0010 0004 0000002C "$(session C0000201)" $marker 0018 02 0001 00 0000 > default; notes 'withdrawals of a default route' 0 '' tables default default
 
 # ---- records of the other family alone
 { index 00000001; rib6 00000001 0004; rib6 00000001 000A; } > six
@@ -170,15 +248,19 @@ run tables whole missing; grep -q '^  note: ' said && wrong 'a note beside a fil
 
 # ---- each growth of a run is refused, with all later ones: no report, or the report with its notes, or with the line that they are missing
 cc -O2 -shared -fPIC -o refuse.so "$here/refuse.c" || exit 2
-run tables --workers 1 none old; cp said told; missing='  note: notes are missing, since memory ran out'
-for ((growth = 1, without = 0; growth < 2000; growth++)); do
-  ON=1 REFUSE=$growth LD_PRELOAD=./refuse.so ./bgp_replay tables --workers 1 none old > out 2> said; status=$?
-  if [ $status = 0 ] && cmp -s said told; then break; fi
-  if [ $status = 3 ] && [ "$(head -n 1 said)" = 'no memory' ] && [ ! -s out ]; then right
-  elif [ $status = 0 ] && [ "$(cat said)" = "$missing" ]; then right; without=$((without + 1))
-  else wrong "growth $growth: status $status: $(cat said)"; fi
-done
-[ $growth -lt 2000 ] && [ $without -gt 0 ] && right || wrong "no run is without its notes: $growth growths, $without"
+missing='  note: notes are missing, since memory ran out'
+refused() { # FILES..
+  run tables --workers 1 "$@"; cp said told
+  for ((growth = 1, without = 0; growth < 2000; growth++)); do
+    ON=1 REFUSE=$growth LD_PRELOAD=./refuse.so ./bgp_replay tables --workers 1 "$@" > out 2> said; status=$?
+    if [ $status = 0 ] && cmp -s said told; then break; fi
+    if [ $status = 3 ] && [ "$(head -n 1 said)" = 'no memory' ] && [ ! -s out ]; then right
+    elif [ $status = 0 ] && [ "$(cat said)" = "$missing" ]; then right; without=$((without + 1))
+    else wrong "growth $growth of $*: status $status: $(cat said)"; fi
+  done
+  [ $growth -lt 2000 ] && [ $without -gt 0 ] && right || wrong "no run of $* is without its notes: $growth growths, $without"
+}
+refused none old; refused once twice
 
 echo "$passed passed, $failed failed"
 [ $failed = 0 ]

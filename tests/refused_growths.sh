@@ -11,7 +11,7 @@
 # requests and those that the C library makes of its allocator for it, as for a thread's locals. The memory of a thread's stack is mapped
 # by pthread_create itself: its want is the start of a thread that fails. Where a growth isn't needed, as a thread's, the answer is as with
 # ample memory. A kind of failure that reached no run of a line has failed too. Dumps: UPDATEs of three peers; an index, a RIB record and an UPDATE; both
-# as files of one run; the sample; and a large RIB of one peer, whose lines are made by several threads. Of all but the sample there is one of IPv6
+# as files of one run; the same with damage that is handled; the sample; and a large RIB of one peer, whose lines are made by several threads. Of all but the sample there is one of IPv6
 # routes, too, by family ipv6. Needs cc. The last line is `N passed, M failed`, counted in runs.
 set -u
 program=$(realpath "$1"); here=$(dirname "$(realpath "$0")"); work=$(mktemp -d); trap 'rm -rf "$work"' EXIT
@@ -26,6 +26,10 @@ table() { bytes 00000003 000D 0002 00000030 00000000 080A 0002 0000 00000001 001
 cd "$work" && ln -s "$program" program || exit 2
 { update C0000201; update C0000202; update C0000201; update C0000203; update C0000202; } > three-peers
 { index; table; update C0000201; } > table-and-update
+# the same behind damage that is handled: an ORIGIN of no kind, whose keys are withdrawn, and entries of an AGGREGATOR of one byte, which is discarded
+grave() { bytes 00000001 0010 0004 00000044 0000FDE8 0000FDE9 0000 0001 "$1" C0000202 $marker 0030 02 0000 0014 40010105 ${attributes:8} 080A 10AC10; }
+cut_aggregator() { bytes 00000003 000D 0002 00000038 00000000 080A 0002 0000 00000001 0018 ${attributes}C0070100 0001 00000001 0008 40010100 C0070100; }
+{ index; cut_aggregator; grave C0000201; update C0000201; grave C0000202; grave C0000203; } > handled
 # 17,000 prefixes of one peer: as many lines as several threads make
 routes() { awk -v attributes=$attributes 'BEGIN { for (i = 0; i < 17000; i++) printf "00000003000D00020000002600000000180A%04X00010000000000010014%s", i, attributes }'; }
 { index; bytes "$(routes)"; } > large
@@ -51,11 +55,12 @@ tries() {
   local file kind lanes
   for lanes in '1 1' '1 1024' '2 1' '2 1024' '4 1' '4 1024' '64 1' '64 1024'; do
     set -- $lanes; step=1; [ $1 = 64 ] && step=7
-    by="--workers $1 --ring $2"
+    by="--quiet --workers $1 --ring $2" # that notes are missing is said where their memory is refused
     for file in three-peers table-and-update; do
       for request in tables visibility origins seen churn peers history 'match --address 10.0.0.1' faults; do echo memory $step 1 $file $request $by $file; done
       for request in 'tables --origin 65000 --path 65000 --community 1:2' seen peers 'history --same'; do echo memory $step 1 $file $request --prefix 10.0.0.0/8+ --prefix 10.0.0.0/7 --peer 65000 --peers 1/1 $by $file; done
       for request in tables 'history --same'; do echo memory $step 1 $file $request --rib replace $by $file table-and-update; done
+      for request in tables 'history --same' 'tables --attributes communities'; do echo memory $step 1 $file $request --errors rfc7606 $by $file handled; done
       echo memory-on $step 1 $file tables $by $file
       for kind in read-EIO read-EINTR; do echo $kind 1 1 $file tables $by $file; echo $kind 1 1 $file churn $by -; done
       for kind in thread thread-on short-reads short-writes; do echo $kind 1 1 $file tables $by $file; done
@@ -77,7 +82,7 @@ tries() {
     echo short-reads 1 1 sample tables $by sample
   done
   for workers in 2 4; do # packed files, which other threads unpack
-    by="--quiet --workers $workers --ring 1024" # a note on two RIB dumps is left out where its memory is refused
+    by="--quiet --workers $workers --ring 1024"
     echo memory 3 1 sample.gz churn $by sample.gz sample.bz2; echo memory-on 9 1 sample.gz churn $by sample.gz sample.bz2
     for kind in read-EIO read-EINTR; do echo $kind 1 1 sample.gz churn $by sample.gz sample.bz2; echo $kind 1 2 sample.bz2 churn $by sample.gz sample.bz2; done
     for kind in thread thread-on short-reads; do echo $kind 1 1 sample.bz2 churn $by sample.gz sample.bz2; done

@@ -4,7 +4,7 @@
 #   tests/same_bytes.sh PROGRAM
 # The dumps are examples/sample.mrt, the front of a generated RIB dump and of generated updates, and of each file in the directory that the
 # variable SAMPLES names, where it is set. A front is cut at FRONT bytes (20000), where its last record is damaged mostly. All dumps
-# together, as files of one run, are one more, and so are they with --rib replace and a RIB dump behind them. So much by family ipv4; by
+# together, as files of one run, are one more, so are they with --errors rfc7606, and with --rib replace and a RIB dump behind them. So much by family ipv4; by
 # family ipv6 a generated RIB dump and updates of IPv6 routes, those of SAMPLES, and all together, in the same ways. Needs cc. The last line
 # is `N passed, M failed`, counted in runs.
 set -u
@@ -25,7 +25,7 @@ tries() { # DUMP..: a line for each number of workers, so that they run side by 
   for workers in 1 2 3 4 8 64; do echo "-w $workers -r 1,2,1024,65536 ../program $*"; done
 }
 {
-  for dump in *; do tries "$dump"; done; tries *; tries * sample.mrt --rib replace
+  for dump in *; do tries "$dump"; done; tries *; tries * --errors rfc7606; tries * sample.mrt --rib replace
   six=(../dumps6/*); for dump in "${six[@]}"; do tries "$dump" --family ipv6 --quiet; done
   tries "${six[@]}" * --family ipv6 --quiet
   tries "${six[@]}" * ../dumps6/generated-rib.mrt --rib replace --family ipv6 --quiet
@@ -33,7 +33,7 @@ tries() { # DUMP..: a line for each number of workers, so that they run side by 
 grep -v '^tried ' "$work/lines"
 sums=$(awk '$1 == "tried" { runs += $2; failed += $3; lines++ } END { print runs + 0, failed + 0, lines + 0 }' "$work/lines")
 read -r runs failed lines <<< "$sums"
-wanted=$((6 * ($(ls | wc -l) + 2 + $(ls ../dumps6 | wc -l) + 2)))
+wanted=$((6 * ($(ls | wc -l) + 3 + $(ls ../dumps6 | wc -l) + 2)))
 [ "$lines" = "$wanted" ] || { echo "$((wanted - lines)) of $wanted tries didn't end"; failed=$((failed + wanted - lines)); }
 echo "$((runs - failed)) passed, $failed failed"
 [ "$failed" = 0 ] && [ "$runs" -gt 0 ]

@@ -33,7 +33,7 @@ def _words():
                           "for whole tables")
     for name in ("family", "rib", "states"):
         one.add_argument(f"--{name}", help="as of the program (bgp_replay history --help)")
-    for name in ("state-peers", "written-by"):
+    for name in ("state-peers", "written-by", "errors"):
         one.add_argument(f"--{name}", help="the same")
     one.add_argument("--table-dump", dest="table_dumps", metavar="TABLE_DUMP", help="the same")
     one.add_argument("-o", "--output", required=True, metavar="FILE", help="the page; - is standard output")

@@ -218,19 +218,20 @@ class Collectors:
     name; "leave" leaves it out. After a report, `failed` has the errors of those by name, and `summaries` lists by name
     the Summary of each share. Damaged records are counted there and are no error, but with damaged="raise"; a packed
     file that ends early is one. `progress` is called with the tasks that are done, one after the other, and `total=`,
-    and gives them on, as tqdm does. Options are those of the reports.
+    and gives them on, as tqdm does. Options are those of the reports, but that `error_rule` is what they call `errors`.
 
     Where a collector has several shares, `churn` and `match` have the order of one run by the report `peers`, which is
     run too. `history` isn't divided: nothing in its lines tells that order.
     """
 
-    def __init__(self, files, *, client=None, errors="raise", shares=1, retries=0, progress=None, **options):
+    def __init__(self, files, *, client=None, errors="raise", error_rule=None, shares=1, retries=0, progress=None,
+                 **options):
         if errors not in ("raise", "leave"):
-            raise ValueError("errors is one of 'raise' and 'leave'")
+            raise ValueError("errors is one of 'raise' and 'leave', and error_rule what is done about damaged messages")
         self.files = {str(name): names_of(some) for name, some in dict(files).items()}
         self.client, self.errors, self.shares = client, errors, shares
         self.retries, self.progress = retries, progress
-        self.options = {"workers": 1, "damaged": "ignore"} | options
+        self.options = {"workers": 1, "damaged": "ignore", "errors": error_rule} | options
         self.failed, self.summaries = {}, {}
 
     def _ask(self, report, options):

@@ -105,6 +105,7 @@ OPTIONS = {
     "rib": ("rib", _one(str)),
     "written_by": ("written-by", _one(str)),
     "table_dumps": ("table-dump", _one(str)),
+    "errors": ("errors", _one(str)),
     "quiet": ("quiet", _flag),
     "workers": ("workers", _one(str)),
     "ring": ("ring", _one(str)),

@@ -169,6 +169,19 @@ def openbgpd(tmp_path_factory):
     return str(file)
 
 
+@pytest.fixture(scope="session")
+def malformed(tmp_path_factory):
+    """Announcements of 10.0.0.0/8, which 65000 makes: well; with an AGGREGATOR of one byte; with ORIGIN 3."""
+    file = tmp_path_factory.mktemp("malformed") / "dump"
+    head = "0000FDE8 0000FDE9 0000 0001 C0000201 C0000202" + "FF" * 16
+    path = "4002060201 0000FDE8 400304 C0000201"
+    file.write_bytes(bytes.fromhex(
+        f"00000001 0010 0004 00000041 {head} 002D 02 0000 0014 40010100 {path} 080A"
+        f"00000002 0010 0004 00000045 {head} 0031 02 0000 0018 40010100 {path} C0070100 080A"
+        f"00000003 0010 0004 00000041 {head} 002D 02 0000 0014 40010103 {path} 080A"))
+    return str(file)
+
+
 @pytest.fixture
 def stand_in(tmp_path, monkeypatch):
     """Takes a shell script's place for the program, which the script finds in $REAL."""

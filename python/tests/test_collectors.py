@@ -282,6 +282,21 @@ def test_a_worker_that_dies(drawn, tmp_path, stand_in):
     assert lines(found) == text_of("churn", all_of(drawn))
 
 
+def test_the_rule_on_damage(malformed, cluster):
+    """`errors` is another thing here. Of the two peers of this name each has a collector of its own."""
+    files = {"a": [malformed], "b": [malformed]}
+    for rule, peers, gone in (None, [2], [0, 0]), ("skip", [2], [0, 0]), ("rfc7606", [], [1, 1]):
+        for options in {}, {"client": cluster, "errors": "leave"}, {"shares": 2}:
+            many = Collectors(files, error_rule=rule, quiet=True, **options)
+            assert many.visibility()["peers"].tolist() == peers
+            assert many.churn()["gone"].tolist() == gone and many.churn()["refused"].tolist() == [2, 2]
+            assert len(many.tables().compute()) == sum(peers)
+    with pytest.raises(bgp_replay.UsageError, match="neither skip nor rfc7606"):
+        Collectors(files, error_rule="other").churn()
+    with pytest.raises(ValueError, match="error_rule"):
+        Collectors(files, errors="rfc7606")
+
+
 def test_what_is_refused(drawn):
     with pytest.raises(ValueError, match="'raise' and 'leave'"):
         Collectors(drawn, errors="no")

@@ -91,6 +91,21 @@ def test_table_dumps_by_either_rule(table_dump):
         frame_of("tables", table_dump, table_dumps="other")
 
 
+def test_damage_by_either_rule(malformed):
+    """RFC 7606: the AGGREGATOR counts as absent, and ORIGIN 3 withdraws. The faults are listed by either rule."""
+    for errors, counts, happened in [(None, [1, 0, 0, 2], ["new"]), ("skip", [1, 0, 0, 2], ["new"]),
+                                     ("rfc7606", [1, 1, 1, 2], ["new", "same", "gone"])]:
+        found = frame_of("churn", malformed, errors=errors)
+        assert found[["new", "same", "gone", "refused"]].values.tolist() == [counts]
+        assert frame_of("history", malformed, errors=errors, same=True)["what"].tolist() == happened
+        assert frame_of("faults", malformed, errors=errors)["fault"].tolist() == ["BadAttribute(7)", "BadAttribute(1)"]
+        assert len(frame_of("tables", malformed, errors=errors)) == (errors != "rfc7606")
+    with pytest.warns(bgp_replay.DamagedWarning):
+        frame_of("tables", malformed, errors="rfc7606", damaged="warn")
+    with pytest.raises(bgp_replay.UsageError, match="neither skip nor rfc7606"):
+        frame_of("tables", malformed, errors="other")
+
+
 def test_state_changes_of_the_local_end(openbgpd):
     """docs/FORMATS.md, rule 19: by local the neighbour's session ended, and its route is gone."""
     itself, neighbour = [64496, "down", 0, 1], [64502, "up", 1, 1]

@@ -1,5 +1,5 @@
 -- What is kept of notes beside a table and its counts: it changes neither.
-use Rattle.std.proofs.Common.{◌≡◌, ℕ, Bool, true, false, cond, List, [], ◌∷◌, ◌++◌, map, Result, Ok, Err, refl, sym, ap, ◌∙◌, if◌then◌else◌}
+use Rattle.std.proofs.Common.{◌≡◌, ℕ, Bool, true, false, cond, List, [], ◌∷◌, ◌++◌, map, Result, refl, sym, ap, ◌∙◌, if◌then◌else◌}
 use Rattle.std.specs.List.{filter, fold}
 use Rattle.std.proofs.lemmas.List.Sums.{fold-append}
 use Rattle.std.proofs.lemmas.List.Elements.{filter-append}
@@ -14,15 +14,14 @@ use Rattle.peer_units.specs.Payloads.{is_recorded}
 use Rattle.adj_rib.specs.Plain.{Note}
 use Rattle.adj_rib.specs.Steps.{Step, break, clear, announce, withdraw}
 use Rattle.adj_rib.specs.Tables.{IsTable}
-use Rattle.adj_rib.specs.Churns.{damage_in, reading_of}
-use Rattle.adj_rib.specs.Applied.{RibState, RouteMap, applied, listed, refused, timed, timed_by}
+use Rattle.adj_rib.specs.Applied.{RibState, RouteMap, applied, timed, timed_by}
 use Rattle.adj_rib.specs.Selecting.{keeps, selected_steps}
 use Rattle.bgp_update.specs.declared.route.Route.{Route}
 use Rattle.route_choice.specs.Choices.{RouteChoice}
 use Rattle.adj_rib.specs.declared.churn.Churn.{Churn}
 use Rattle.adj_rib.specs.declared.outcome.What.TheVariants.{Lost}
 use Rattle.adj_rib.specs.Histories.{announced_note, lost_note, meets_choice, noted_after, noted_behind, outcome_noted, withdrawn_note}
-use Rattle.adj_rib.specs.Noting.{Takes, applied_noting, counted_note, counted_this, keep_beside, keep_chosen, followed_noting, noted_on, read_noting, taken_noting}
+use Rattle.adj_rib.specs.Noting.{Takes, applied_noting, counted_note, counted_this, keep_beside, keep_chosen, noted_on, read_noting, taken_noting}
 use Rattle.adj_rib.proofs.TableLaws.{entries-IsTable}
 use Rattle.adj_rib.proofs.Stepping.{table_step}
 use Rattle.adj_rib.proofs.Taking.{timed_told}
@@ -86,19 +85,11 @@ module _ {K : Type 0} (keep : K → Note → K) where
       ∙ sym (fold-append keep kept (noted_after steps step) (noted_behind (steps ++ step ∷ []) more))
 
   module _ (selects : RouteKey → Bool) where
-    -- a unit is taken as its reading says
-    taken_as : (k : RibState) (kept : K) (unit : ReplayUnit) → read_noting keep selects (record k { churn = timed_by unit k.churn }, kept) unit.place (reading_of unit) ≡ taken_noting keep selects (k, kept) unit
-    unfolding taken_noting followed_noting refused
-    taken_as k kept unit = elim (reading_of unit) as (λ r. read_noting keep selects (record k { churn = timed_by unit k.churn }, kept) unit.place r ≡ (record (followed_noting keep selects (record k { churn = timed_by unit k.churn }, kept) r).0 { faults = listed k.faults (damage_in unit r) }, (followed_noting keep selects (record k { churn = timed_by unit k.churn }, kept) r).1)) [
-      | Ok e ↦ refl
-      | Err fault ↦ refl
-    ]
-
-    -- and as it is told to
+    -- a unit is taken as it is told to
     pub taken_by : (k : RibState) (kept : K) (unit : ReplayUnit) (place : Place) (time : ℕ) (event : Result Event Fault) → Means unit place time event → is_recorded_event (event_in unit.payload) ≡ is_recorded unit.payload
         → read_noting keep selects (record k { churn = if is_recorded_event event then timed time k.churn else k.churn }, kept) place event ≡ taken_noting keep selects (k, kept) unit
+    unfolding taken_noting
     taken_by k kept unit place time event m told =
         ap (λ c. read_noting keep selects (record k { churn = c }, kept) place event) (timed_told unit place time event m told k.churn)
-        ∙ (ap (λ p. read_noting keep selects (record k { churn = timed_by unit k.churn }, kept) p event) (sym m.place_is)
-        ∙ (ap (read_noting keep selects (record k { churn = timed_by unit k.churn }, kept) unit.place) (sym m.event_is)
-        ∙ taken_as k kept unit))
+        ∙ ap (λ p. read_noting keep selects (record k { churn = timed_by unit k.churn }, kept) p event) (sym m.place_is)
+        ∙ ap (read_noting keep selects (record k { churn = timed_by unit k.churn }, kept) unit.place) (sym m.event_is)

@@ -11,8 +11,12 @@ use Rattle.bgp_prefix.proofs.KeyLaws.{key_cmp_total, key_cmp_exact}
 use Rattle.bgp_prefix.proofs.KeySearches.{same_key}
 use Rattle.mrt_frame.specs.Fields.{◌>>=◌}
 use Rattle.mrt_frame.specs.declared.fault.Fault.{Fault}
+use Rattle.mrt_frame.specs.declared.fault.Fault.TheVariants.{ShortAttribute}
+use Rattle.bgp_update.specs.declared.error_rule.ErrorRule.{ErrorRule}
 use Rattle.bgp_update.specs.declared.route.Route.{Route}
 use Rattle.bgp_update.specs.Updates.{Update}
+use Rattle.bgp_update.specs.ErrorRules.{is_handling}
+use Rattle.bgp_update.specs.Handling.{announcing, recovered_route}
 use Rattle.bgp_update.specs.Families.{route_rules}
 use Rattle.bgp_update.specs.Attributes.{route_in}
 use Rattle.bgp_update.specs.Hops.{by_hop}
@@ -24,7 +28,7 @@ use Rattle.peer_units.specs.Plain.{Payload}
 use Rattle.peer_units.specs.declared.unit.Payload.TheVariants.{State, Message, Entry, Clear}
 use Rattle.peer_units.specs.Plain.{Unit as ReplayUnit}
 use Rattle.peer_units.specs.States.{up_by, established_by}
-use Rattle.peer_units.specs.Events.{event_in}
+use Rattle.peer_units.specs.Events.{damaged_event, entry_event, event_in}
 use Rattle.peer_units.specs.Choices.{is_open, is_chosen}
 use Rattle.peer_units.specs.Selections.{has_chosen, speaks_of, concerns}
 use Rattle.adj_rib.specs.declared.outcome.Outcome.{Outcome}
@@ -196,18 +200,29 @@ module _ (choices : List PrefixChoice) where
   quiet_reading up (Ok (event.Rib key route)) h = absurd cc
   quiet_reading up (Ok event.Other) h = refl
   quiet_reading up (Ok event.Clear) h = absurd cc
+  quiet_reading up (Ok (event.Handled fault u)) h = absurd cc
   quiet_reading up (Err fault) h = absurd cc
 
-  quiet_entry : (up : Bool) (key : RouteKey) (r : Result Route Fault) → is_chosen choices key.prefix ≡ false → kept_steps (reading_steps up (r >>= λ route. Ok (event.Rib key route))) ≡ []
-  quiet_entry true key (Ok route) h = ap (λ b. cond b (announce key route ∷ []) []) h
-  quiet_entry false key (Ok route) h = refl
-  quiet_entry up key (Err fault) h = refl
+  -- an entry is its key's, damaged or not
+  quiet_handled : (up : Bool) (key : RouteKey) (fault : Fault) (r : Result Route Fault) → is_chosen choices key.prefix ≡ false → kept_steps (reading_steps up (damaged_event fault (r >>= λ route. Ok (announcing key route)))) ≡ []
+  quiet_handled true key fault (Ok route) h = ap (λ b. cond b (announce key route ∷ []) []) h
+  quiet_handled false key fault (Ok route) h = refl
+  quiet_handled up key fault (Err other) h = refl
+
+  quiet_entry : (up : Bool) (errors : ErrorRule) (key : RouteKey) (r again : Result Route Fault) → is_chosen choices key.prefix ≡ false → kept_steps (reading_steps up (entry_event key r (cond (is_handling errors) (again >>= λ route. Ok (announcing key route)) (Err ShortAttribute)))) ≡ []
+  quiet_entry true errors key (Ok route) again h = ap (λ b. cond b (announce key route ∷ []) []) h
+  quiet_entry false errors key (Ok route) again h = refl
+  quiet_entry up errors key (Err fault) again h =
+      elim (is_handling errors) as (λ b. kept_steps (reading_steps up (damaged_event fault (cond b (again >>= λ route. Ok (announcing key route)) (Err ShortAttribute)))) ≡ []) [
+        | true ↦ quiet_handled up key fault again h
+        | false ↦ refl
+      ]
 
   quiet_payload : (up : Bool) (payload : Payload) → concerns choices payload ≡ false → kept_steps (reading_steps up (event_in payload)) ≡ []
   unfolding event_in
   quiet_payload up (State from to rule) h = absurd cc
   quiet_payload up (Message bytes width add_path rules) h = quiet_reading up (event_in (Message bytes width add_path rules)) (or_parts (is_open choices) (speaks_of choices (event_in (Message bytes width add_path rules))) h).1
-  quiet_payload up (Entry rules key attrs) h = quiet_entry up key (route_in (route_rules rules) rules.entry_width attrs) h
+  quiet_payload up (Entry rules key attrs) h = quiet_entry up rules.errors key (route_in (route_rules rules) rules.entry_width attrs) (recovered_route rules.errors (route_rules rules) rules.entry_width attrs) h
   quiet_payload up Clear h = absurd cc
 
   pub quiet_unit : (up : Bool) (u : ReplayUnit) → concerns choices u.payload ≡ false → kept_steps (unit_steps up u) ≡ []

@@ -23,7 +23,7 @@ use Rattle.peer_units.specs.States.{breaks}
 use Rattle.adj_rib.specs.Steps.{Step, break, clear, announce, withdraw, is_up, update_steps, withdrawals, announcements, reachings, reading_steps, unit_steps, steps_of}
 use Rattle.adj_rib.specs.Tables.{said_of, route_at, table_of}
 use Rattle.adj_rib.specs.Churns.{reading_of}
-use Rattle.adj_rib.specs.Sources.{Announces, EndsRoutes, ComesFrom}
+use Rattle.adj_rib.specs.Sources.{Announces, ComesFrom, EndsRoutes, IsAnnouncedBy}
 use Rattle.adj_rib.proofs.After.{steps_of-push}
 use Rattle.adj_rib.proofs.TableLaws.{route_at-push, find-table_of, IsTable_start, IsTable_break, IsTable_clear, entries-IsTable}
 
@@ -68,7 +68,7 @@ module _ (p : RouteKey) (route : Route) where
             (later_item q keys p rest.0, rest.1)
       ]
 
-  announced_by_update : (u : Update) → Contains (update_steps u) (announce p route) → Announces (event.Change u) p route
+  announced_by_update : (u : Update) → Contains (update_steps u) (announce p route) → IsAnnouncedBy u p route
   announced_by_update u h =
       elim (Contains-append_cases (withdrawals u ++ announcements u) (reachings u) (announce p route) h) [
         | inl g ↦ elim (Contains-append_cases (withdrawals u) (announcements u) (announce p route) g) [
@@ -119,6 +119,8 @@ module _ (p : RouteKey) (route : Route) where
   announcer_of_reading false (Ok (event.Change u)) h = absurd (no_item (announce p route) h)
   announcer_of_reading true (Ok (event.Rib q r)) h = record { is_up = refl; meaning = event.Rib q r; is = refl; announces = announced_by_entry q r h }
   announcer_of_reading false (Ok (event.Rib q r)) h = absurd (no_item (announce p route) h)
+  announcer_of_reading true (Ok (event.Handled fault u)) h = record { is_up = refl; meaning = event.Handled fault u; is = refl; announces = announced_by_update u h }
+  announcer_of_reading false (Ok (event.Handled fault u)) h = absurd (no_item (announce p route) h)
 
   -- ---- the steps that leave a route
 

@@ -10,11 +10,13 @@ use Rattle.bgp_prefix.specs.Keys.{key_cmp}
 use Rattle.bgp_prefix.specs.Keys.{RouteKey}
 use Rattle.mrt_frame.specs.Fields.{◌>>=◌}
 use Rattle.mrt_frame.specs.declared.fault.Fault.{Fault}
+use Rattle.bgp_update.specs.declared.error_rule.ErrorRule.{ErrorRule}
 use Rattle.bgp_update.specs.declared.width.Width.{Width}
 use Rattle.bgp_update.specs.declared.route.Route.{Route}
 use Rattle.bgp_update.specs.Attributes.{route_in}
 use Rattle.bgp_update.specs.Families.{RouteRules, route_rules}
 use Rattle.bgp_update.specs.Updates.{Update, update_in}
+use Rattle.bgp_update.specs.Handling.{handled_entry, handled_update}
 use Rattle.peer_units.specs.declared.state_rule.StateRule.{StateRule}
 use Rattle.peer_units.specs.Plain.{Payload}
 use Rattle.peer_units.specs.declared.unit.Payload.TheVariants.{State, Message, Entry, Clear}
@@ -26,12 +28,12 @@ use Rattle.peer_units.specs.declared.meaning.Event.TheVariants as event
 use Rattle.peer_units.specs.States.{up_by, established_by}
 use Rattle.peer_units.specs.Payloads.{is_recorded}
 use Rattle.peer_units.specs.DecodedEvents.{Means, is_recorded_event}
-use Rattle.peer_units.specs.Events.{UPDATE, message_in, message_event_in, event_in}
+use Rattle.peer_units.specs.Events.{UPDATE, damaged_event, entry_event, event_in, message_event_in, message_in, update_event}
 use Rattle.adj_rib.specs.declared.arrivals.Arrivals.{Arrivals}
 use Rattle.adj_rib.specs.declared.churn.Churn.{Churn}
 use Rattle.adj_rib.specs.Steps.{Step, state_says, last_said, is_up, is_established}
 use Rattle.adj_rib.specs.Tables.{IsTable, table_of}
-use Rattle.adj_rib.specs.Churns.{reading_of, damage_in, damaged_of, first_of, stopped, recorded_times, first_time, last_time}
+use Rattle.adj_rib.specs.Churns.{reading_of, damage_at, damaged_of, first_of, stopped, recorded_times, first_time, last_time}
 use Rattle.adj_rib.specs.Arrived.{recorded_places, arrivals_of, arrived, arrived_by}
 use Rattle.adj_rib.specs.Applied.{said_by, RouteMap, timed, timed_by, up_after, established_after, listed}
 use Rattle.adj_rib.proofs.TableLaws.{last_or-append, find-table_of}
@@ -40,27 +42,31 @@ use Rattle.adj_rib.proofs.Stepping.{stopped_more}
 -- ---- what state changes say
 
 module _ (says : StateRule → ℕ → ℕ → Option Bool) where
-  no_state_in_update : (r : Result Update Fault) → said_by says (r >>= λ update. Ok (event.Change update)) ≡ None
-  no_state_in_update (Ok update) = refl
-  no_state_in_update (Err fault) = refl
+  no_state_in_damage : (fault : Fault) (handled : Result Update Fault) → said_by says (damaged_event fault handled) ≡ None
+  no_state_in_damage fault (Ok update) = refl
+  no_state_in_damage fault (Err other) = refl
 
-  no_state_in_route : (key : RouteKey) (r : Result Route Fault) → said_by says (r >>= λ route. Ok (event.Rib key route)) ≡ None
-  no_state_in_route key (Ok route) = refl
-  no_state_in_route key (Err fault) = refl
+  no_state_in_update : (errors : ErrorRule) (r handled : Result Update Fault) → said_by says (update_event errors r handled) ≡ None
+  no_state_in_update errors (Ok update) handled = refl
+  no_state_in_update errors (Err fault) handled = no_state_in_damage fault handled
 
-  no_state_in_message : (rules : RouteRules) (width : Width) (add_path : Bool) (r : Result (ℕ × List ℕ) Fault) → said_by says (r >>= λ m. cond (m.0 == UPDATE) (update_in rules width add_path m.1 >>= λ update. Ok (event.Change update)) (Ok event.Other)) ≡ None
-  no_state_in_message rules width add_path (Err fault) = refl
-  no_state_in_message rules width add_path (Ok m) =
-      elim (m.0 == UPDATE) as (λ b. said_by says (cond b (update_in rules width add_path m.1 >>= λ update. Ok (event.Change update)) (Ok event.Other)) ≡ None) [
-        | true ↦ no_state_in_update (update_in rules width add_path m.1)
+  no_state_in_route : (key : RouteKey) (r : Result Route Fault) (handled : Result Update Fault) → said_by says (entry_event key r handled) ≡ None
+  no_state_in_route key (Ok route) handled = refl
+  no_state_in_route key (Err fault) handled = no_state_in_damage fault handled
+
+  no_state_in_message : (errors : ErrorRule) (rules : RouteRules) (width : Width) (add_path : Bool) (r : Result (ℕ × List ℕ) Fault) → said_by says (r >>= λ m. cond (m.0 == UPDATE) (update_event errors (update_in rules width add_path m.1) (handled_update errors rules width add_path m.1)) (Ok event.Other)) ≡ None
+  no_state_in_message errors rules width add_path (Err fault) = refl
+  no_state_in_message errors rules width add_path (Ok m) =
+      elim (m.0 == UPDATE) as (λ b. said_by says (cond b (update_event errors (update_in rules width add_path m.1) (handled_update errors rules width add_path m.1)) (Ok event.Other)) ≡ None) [
+        | true ↦ no_state_in_update errors (update_in rules width add_path m.1) (handled_update errors rules width add_path m.1)
         | false ↦ refl
       ]
 
   said_of_reading : (payload : Payload) → state_says says payload ≡ said_by says (event_in payload)
   unfolding event_in message_event_in
   said_of_reading (State from to rule) = refl
-  said_of_reading (Message bytes width add_path rules) = sym (no_state_in_message (route_rules rules) width add_path (message_in bytes))
-  said_of_reading (Entry rules key attrs) = sym (no_state_in_route key (route_in (route_rules rules) rules.entry_width attrs))
+  said_of_reading (Message bytes width add_path rules) = sym (no_state_in_message rules.errors (route_rules rules) width add_path (message_in bytes))
+  said_of_reading (Entry rules key attrs) = sym (no_state_in_route key (route_in (route_rules rules) rules.entry_width attrs) (handled_entry rules.errors (route_rules rules) rules.entry_width key attrs))
   said_of_reading Clear = refl
 
   abbrev said_in : List ReplayUnit → List Bool
@@ -89,11 +95,11 @@ listed-is : (faults : List Damage) (damage : Option Damage) → faults ++ cons_o
 listed-is faults None = append-nil faults
 listed-is faults (Some damage) = refl
 
-pub damaged_of-push : (units : List ReplayUnit) (unit : ReplayUnit) → damaged_of (units ++ unit ∷ []) ≡ listed (damaged_of units) (damage_in unit (reading_of unit))
+pub damaged_of-push : (units : List ReplayUnit) (unit : ReplayUnit) → damaged_of (units ++ unit ∷ []) ≡ listed (damaged_of units) (damage_at unit.place (reading_of unit))
 unfolding damaged_of
 damaged_of-push units unit =
-    filter_map-append (λ (u : ReplayUnit). damage_in u (reading_of u)) units (unit ∷ [])
-    ∙ listed-is (filter_map (λ (u : ReplayUnit). damage_in u (reading_of u)) units) (damage_in unit (reading_of unit))
+    filter_map-append (λ (u : ReplayUnit). damage_at u.place (reading_of u)) units (unit ∷ [])
+    ∙ listed-is (filter_map (λ (u : ReplayUnit). damage_at u.place (reading_of u)) units) (damage_at unit.place (reading_of unit))
 
 -- what is kept of recorded units, with one more unit
 recorded-push : {A : Type 0} (f : ReplayUnit → A) (units : List ReplayUnit) (unit : ReplayUnit) → filter_map (λ (u : ReplayUnit). if is_recorded u.payload then Some (f u) else None) (units ++ unit ∷ []) ≡ filter_map (λ (u : ReplayUnit). if is_recorded u.payload then Some (f u) else None) units ++ (if is_recorded unit.payload then f unit ∷ [] else [])

@@ -1,12 +1,12 @@
 -- The steps of an UPDATE, part by part.
-use Rattle.std.proofs.Common.{◌≡◌, not, ◌||◌, List, [], map, Option, Some, sym, ap, ◌∙◌}
+use Rattle.std.proofs.Common.{◌≡◌, not, ◌||◌, List, map, Option, Some, sym, ap, ◌∙◌}
 use Rattle.std.specs.List.{filter}
 use Rattle.bgp_prefix.specs.Keys.{RouteKey, among}
 use Rattle.bgp_update.specs.declared.decoded.HashedRoute.{HashedRoute}
 use Rattle.bgp_update.specs.declared.route.Route.{Route}
 use Rattle.bgp_update.specs.Hops.{by_hop, IsByHop}
 use Rattle.bgp_update.specs.Decoded.{hop_of}
-use Rattle.adj_rib.specs.Steps.{Step, announce, withdraw}
+use Rattle.adj_rib.specs.Steps.{announce, withdraw}
 
 -- sets of the same keys leave the same others
 pub same_others : (a b c d : List RouteKey) (keys : List RouteKey) → ((k : RouteKey) → among a k ≡ among b k) → ((k : RouteKey) → among c k ≡ among d k)

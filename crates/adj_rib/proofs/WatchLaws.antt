@@ -17,7 +17,7 @@ use Rattle.adj_rib.specs.declared.churn.Churn.{Churn}
 use Rattle.adj_rib.specs.Plain.{Note}
 use Rattle.adj_rib.specs.Steps.{Step, break, clear, announce, withdraw, is_up, unit_steps, reading_steps, steps_of}
 use Rattle.adj_rib.specs.Tables.{IsTable, route_at, table_of}
-use Rattle.adj_rib.specs.Churns.{damage_in, damaged_of, reading_of}
+use Rattle.adj_rib.specs.Churns.{damage_at, damaged_of, reading_of}
 use Rattle.adj_rib.specs.Applied.{RibState, RouteMap, START, applied, counted, listed, no_churn, noted, timed, timed_by, up_after}
 use Rattle.adj_rib.specs.Selecting.{concerned, keeps, selected_steps, selected_entries, chooses}
 use Rattle.adj_rib.specs.Histories.{announced_note, withdrawn_note, lost_note, noted_after, noted_behind, unit_notes, chosen_notes, churn_within, idle_within, meets_choice, notes_within, is_before, outcome_noted, with_outcomes, WatchState, WatchesFor, watch_of}
@@ -141,7 +141,7 @@ module _ (prefixes : List PrefixChoice) {K : Type 0} (keep : K → Note → K) (
 
   faults_then : now.faults ≡ damaged_of (before ++ unit ∷ [])
   unfolding taken_noting
-  faults_then = ap (λ (s : RibState × K). s.0.faults) e ∙ ap (λ faults. listed faults (damage_in unit (reading_of unit))) stood.faults ∙ sym (damaged_of-push before unit)
+  faults_then = ap (λ (s : RibState × K). s.0.faults) e ∙ ap (λ faults. listed faults (damage_at unit.place (reading_of unit))) stood.faults ∙ sym (damaged_of-push before unit)
 
   table_then : IsTable (selected_steps (chooses prefixes) (steps_of (before ++ unit ∷ []))) now.table
   table_then = rw (steps_then, ap (λ (r : RouteMap × Churn). r.0) rib_then) (table_after_steps done more rib stood.table)

@@ -1,7 +1,7 @@
 -- What is counted within a time, of one more unit; and without a second and prefixes it is what is counted of all
 -- units.
 use Rattle.std.proofs.Common.{◌≡◌, ℕ, ◌+◌, ◌&&◌, ◌||◌, not, Bool, true, false, cond, List, [], ◌∷◌, ◌++◌, map, Option, Some, None, Result, Ok, Err, refl, sym, ap, ◌∙◌, append_assoc, if◌then◌else◌}
-use Rattle.std.specs.Prelude.{is_err, is_some, unwrap_or}
+use Rattle.std.specs.Prelude.{is_some, unwrap_or}
 use Rattle.std.specs.List.{count_by, filter, fold, list_all}
 use Rattle.std.proofs.lemmas.List.{append-nil}
 use Rattle.std.proofs.lemmas.List.Elements.{filter-append}
@@ -32,7 +32,7 @@ use Rattle.peer_units.specs.Payloads.{is_recorded}
 use Rattle.adj_rib.specs.Steps.{Step, break, clear, announce, withdraw, is_up, withdrawals, announcements, reachings, update_steps, reading_steps, unit_steps, steps_of}
 use Rattle.adj_rib.specs.Tables.{IsTable, route_at, table_of}
 use Rattle.adj_rib.specs.Selecting.{keeps, selected_steps}
-use Rattle.adj_rib.specs.Churns.{announced_over, outcome_of, outcomes_of, is_outcome, count_of, is_break, is_routing, reading_of, first_time, last_time, stopped, churn_of}
+use Rattle.adj_rib.specs.Churns.{announced_over, outcome_of, outcomes_of, is_outcome, count_of, fault_of, is_break, is_routing, reading_of, first_time, last_time, stopped, churn_of}
 use Rattle.adj_rib.specs.Applied.{RouteMap, applied, counted, counted_if, noted, timed, timed_by}
 use Rattle.adj_rib.specs.Histories.{announced_note, withdrawn_note, lost_note, noted_after, noted_behind, unit_notes, chosen_notes, is_before, units_within, notes_within, idle_within, outcome_noted, is_this, has_outcome, churn_by, churn_within}
 use Rattle.adj_rib.specs.Noting.{counted_note, counted_this}
@@ -85,7 +85,7 @@ abbrev pub unit_counted : Bool → Result Event Fault → Churn → Churn
 unit_counted up r c = record c {
   resets = counted_if (is_break r) c.resets;
   idle = counted_if (is_routing r && not up) c.idle;
-  refused = counted_if (is_err r) c.refused;
+  refused = counted_if (is_some (fault_of r)) c.refused;
 }
 
 kept_apart : (b : Bool) (time : ℕ) (broken idle refused : Bool) (c : Churn) → record (if b then timed time c else c) { resets = counted_if broken c.resets; idle = counted_if idle c.idle; refused = counted_if refused c.refused } ≡ record (if b then timed time c else c) { resets = counted_if broken (if b then timed time c else c).resets; idle = counted_if idle (if b then timed time c else c).idle; refused = counted_if refused (if b then timed time c else c).refused }
@@ -103,16 +103,16 @@ unit_more notes flags units up u =
     (λ i. record (churn_by notes flags units) {
       resets = stopped-count_by-push (λ (v : ReplayUnit). is_break (reading_of v)) units u i;
       idle = stopped-count_by-push (λ (flag : Bool). flag) flags (is_routing (reading_of u) && not up) i;
-      refused = stopped-count_by-push (λ (v : ReplayUnit). is_err (reading_of v)) units u i;
+      refused = stopped-count_by-push (λ (v : ReplayUnit). is_some (fault_of (reading_of v))) units u i;
       first = first_time-push units u i;
       last = last_time-push units u i;
     })
     ∙ (λ i. record (times_more (is_recorded u.payload) (first_time units) (last_time units) u.time (churn_by notes flags units) refl refl i) {
       resets = counted_if (is_break (reading_of u)) (stopped (count_by (λ (v : ReplayUnit). is_break (reading_of v)) units));
       idle = counted_if (is_routing (reading_of u) && not up) (stopped (count_by (λ (flag : Bool). flag) flags));
-      refused = counted_if (is_err (reading_of u)) (stopped (count_by (λ (v : ReplayUnit). is_err (reading_of v)) units));
+      refused = counted_if (is_some (fault_of (reading_of u))) (stopped (count_by (λ (v : ReplayUnit). is_some (fault_of (reading_of v))) units));
     })
-    ∙ kept_apart (is_recorded u.payload) u.time (is_break (reading_of u)) (is_routing (reading_of u) && not up) (is_err (reading_of u)) (churn_by notes flags units)
+    ∙ kept_apart (is_recorded u.payload) u.time (is_break (reading_of u)) (is_routing (reading_of u) && not up) (is_some (fault_of (reading_of u))) (churn_by notes flags units)
 
 module _ (since : Option ℕ) (choices : Choices) (before : List ReplayUnit) (u : ReplayUnit) where
   abbrev own : List Note
@@ -225,6 +225,8 @@ module _ (selects : RouteKey → Bool) where
   reading_counts false (Ok (event.Rib key route)) steps table c h = refl
   reading_counts up (Ok event.Other) steps table c h = refl
   reading_counts up (Ok event.Clear) steps table c h = steps_counted steps (clear ∷ []) (table, c) h refl
+  reading_counts true (Ok (event.Handled fault update)) steps table c h = steps_counted steps (selected_steps selects (update_steps update)) (table, noted true (Ok (event.Handled fault update)) c) h (quiet_selected (update_steps update) (quiet_update update))
+  reading_counts false (Ok (event.Handled fault update)) steps table c h = refl
   reading_counts up (Err fault) steps table c h = refl
 
 -- ---- without a second and prefixes
@@ -305,6 +307,8 @@ reading_breaks true (Ok (event.Rib key route)) = refl
 reading_breaks false (Ok (event.Rib key route)) = refl
 reading_breaks up (Ok event.Other) = refl
 reading_breaks up (Ok event.Clear) = refl
+reading_breaks true (Ok (event.Handled fault update)) = none_breaks (update_steps update) (quiet_update update)
+reading_breaks false (Ok (event.Handled fault update)) = refl
 reading_breaks up (Err fault) = refl
 
 breaks_are : (units : List ReplayUnit) → count_by (λ (u : ReplayUnit). is_break (reading_of u)) units ≡ count_of outcome.Reset (outcomes_of (steps_of units))
@@ -327,7 +331,7 @@ churn_within-all units = λ i. record {
   void = stopped (same_count outcome.Void refl refl units i);
   resets = stopped ((ap (count_by (λ (u : ReplayUnit). is_break (reading_of u))) (all_within units) ∙ breaks_are units) i);
   idle = stopped (count_by (λ flag. flag) (idle_within None units));
-  refused = stopped (count_by (λ (u : ReplayUnit). is_err (reading_of u)) (all_within units i));
+  refused = stopped (count_by (λ (u : ReplayUnit). is_some (fault_of (reading_of u))) (all_within units i));
   first = first_time (all_within units i);
   last = last_time (all_within units i);
 }

@@ -1,5 +1,5 @@
 -- What one step, and one unit, does to what a session keeps: the rules one at a time, as the code follows them.
-use Rattle.std.specs.Prelude.{ℕ, ◌+◌, Bool, true, not, ◌&&◌, List, [], ◌∷◌, ◌++◌, Option, Some, None, Result, Ok, Err, is_some, is_err, unwrap_or, if◌then◌else◌}
+use Rattle.std.specs.Prelude.{ℕ, ◌+◌, Bool, true, not, ◌&&◌, List, [], ◌∷◌, ◌++◌, Option, Some, None, Result, Ok, Err, is_some, unwrap_or, if◌then◌else◌}
 use Rattle.std.specs.FinMap as finite
 use Rattle.bgp_prefix.specs.Keys.{key_cmp}
 use Rattle.mrt_frame.specs.declared.fault.Fault.{Fault}
@@ -15,7 +15,7 @@ use Rattle.adj_rib.specs.declared.churn.Churn.{Churn}
 use Rattle.adj_rib.specs.declared.outcome.Outcome.{Outcome}
 use Rattle.adj_rib.specs.declared.outcome.Outcome.TheVariants.{Added, Changed, Same, Gone, Void, Reset, Cleared}
 use Rattle.adj_rib.specs.Steps.{Step, break, clear, announce, withdraw}
-use Rattle.adj_rib.specs.Churns.{announced_over, is_outcome, is_routing, stopped}
+use Rattle.adj_rib.specs.Churns.{announced_over, fault_of, is_outcome, is_routing, stopped}
 
 -- one more where the flag says so
 abbrev pub counted_if : Bool → ℕ → ℕ
@@ -67,7 +67,7 @@ timed_by unit c = if is_recorded unit.payload then timed unit.time c else c
 unfoldable pub noted : Bool → Result Event Fault → Churn → Churn
 noted up reading c = record c {
   idle = counted_if (is_routing reading && not up) c.idle;
-  refused = counted_if (is_err reading) c.refused;
+  refused = counted_if (is_some (fault_of reading)) c.refused;
 }
 
 -- what a reading says by this, if it is a state change and says anything
@@ -77,6 +77,7 @@ said_by says (Ok (event.Change update)) = None
 said_by says (Ok (event.Rib key route)) = None
 said_by says (Ok event.Other) = None
 said_by says (Ok event.Clear) = None
+said_by says (Ok (event.Handled fault update)) = None
 said_by says (Err fault) = None
 
 abbrev pub up_after : Bool → Result Event Fault → Bool
@@ -118,6 +119,6 @@ abbrev pub listed : List Damage → Option Damage → List Damage
 listed faults None = faults
 listed faults (Some damage) = faults ++ damage ∷ []
 
--- after a damaged unit
+-- after a damaged unit about which nothing is done
 unfoldable pub refused : RibState → Damage → RibState
 refused k damage = record k { churn = noted k.up (Err damage.fault) k.churn; faults = k.faults ++ damage ∷ [] }

@@ -1,11 +1,12 @@
 -- What a peer's units did, counted.
-use Rattle.std.specs.Prelude.{ℕ, ◌-◌, ◌^◌, Bool, true, false, not, ◌&&◌, List, [], ◌∷◌, min, Option, Some, None, Result, Ok, Err, is_some, is_err, ◌==◌, if◌then◌else◌}
+use Rattle.std.specs.Prelude.{ℕ, ◌-◌, ◌^◌, Bool, true, false, not, ◌&&◌, List, [], ◌∷◌, min, Option, Some, None, Result, Ok, Err, is_some, ◌==◌, option_map, if◌then◌else◌}
 use Rattle.std.specs.List.{count_by, filter_map, last_or}
 use Rattle.mrt_frame.specs.declared.fault.Fault.{Fault}
 use Rattle.bgp_update.specs.declared.route.Route.{Route}
 use Rattle.mrt_frame.specs.Positions.{flat_map_after}
 use Rattle.peer_units.specs.Plain.{Unit as ReplayUnit}
 use Rattle.peer_units.specs.declared.unit.Damage.{Damage}
+use Rattle.peer_units.specs.declared.unit.Place.{Place}
 use Rattle.peer_units.specs.Plain.{Event}
 use Rattle.peer_units.specs.declared.meaning.Event.TheVariants as event
 use Rattle.peer_units.specs.States.{breaks}
@@ -54,6 +55,7 @@ is_routing (Ok (event.Rib key route)) = true
 is_routing (Ok (event.State old new rule)) = false
 is_routing (Ok event.Other) = false
 is_routing (Ok event.Clear) = false
+is_routing (Ok (event.Handled fault update)) = false
 is_routing (Err fault) = false
 
 -- a state change that is a break, whole
@@ -63,6 +65,7 @@ is_break (Ok (event.Change update)) = false
 is_break (Ok (event.Rib key route)) = false
 is_break (Ok event.Other) = false
 is_break (Ok event.Clear) = false
+is_break (Ok (event.Handled fault update)) = false
 is_break (Err fault) = false
 
 abbrev pub reading_of : ReplayUnit → Result Event Fault
@@ -72,13 +75,23 @@ reading_of unit = event_in unit.payload
 abbrev pub idle_flags : List ReplayUnit → List Bool
 idle_flags units = flat_map_after (λ before unit. (is_routing (reading_of unit) && not (is_up before)) ∷ []) [] units
 
-abbrev pub damage_in : ReplayUnit → Result Event Fault → Option Damage
-damage_in unit (Ok e) = None
-damage_in unit (Err fault) = Some (record { place = unit.place; fault = fault })
+-- the fault, whether anything is done about it or not
+abbrev pub fault_of : Result Event Fault → Option Fault
+fault_of (Ok (event.State old new rule)) = None
+fault_of (Ok (event.Change update)) = None
+fault_of (Ok (event.Rib key route)) = None
+fault_of (Ok event.Other) = None
+fault_of (Ok event.Clear) = None
+fault_of (Ok (event.Handled fault update)) = Some fault
+fault_of (Err fault) = Some fault
+
+-- what is listed of a unit at a place
+abbrev pub damage_at : Place → Result Event Fault → Option Damage
+damage_at place reading = option_map (λ fault. record { place = place; fault = fault }) (fault_of reading)
 
 -- the damaged units' places and faults, in order
 unfoldable pub damaged_of : List ReplayUnit → List Damage
-damaged_of units = filter_map (λ unit. damage_in unit (reading_of unit)) units
+damaged_of units = filter_map (λ unit. damage_at unit.place (reading_of unit)) units
 
 -- the first of some items, if there is one
 abbrev pub first_of : {A : Type 0} → List A → Option A
@@ -111,7 +124,7 @@ churn_of units =
       void = stopped (count_of Void outcomes);
       resets = stopped (count_of Reset outcomes);
       idle = stopped (count_by (λ flag. flag) (idle_flags units));
-      refused = stopped (count_by (λ unit. is_err (reading_of unit)) units);
+      refused = stopped (count_by (λ unit. is_some (fault_of (reading_of unit))) units);
       first = first_time units;
       last = last_time units;
     }

@@ -1,6 +1,6 @@
 -- What happened to each key of a peer: a note of each announcement and withdrawal, and of each route that a break or a
 -- clear ended (RFC 4271, 3.2, 4.3 and 9).
-use Rattle.std.specs.Prelude.{◌≡◌, ℕ, ◌/◌, Bool, false, not, ◌&&◌, ◌||◌, List, [], ◌∷◌, map, Option, Some, None, is_err, nat_lt, if◌then◌else◌}
+use Rattle.std.specs.Prelude.{◌≡◌, ℕ, ◌/◌, Bool, false, not, ◌&&◌, ◌||◌, List, [], ◌∷◌, map, Option, Some, None, is_some, nat_lt, if◌then◌else◌}
 use Rattle.std.specs.List.{count_by, filter}
 use Rattle.mrt_frame.specs.Positions.{flat_map_after}
 use Rattle.bgp_prefix.specs.Keys.{RouteKey}
@@ -18,7 +18,7 @@ use Rattle.adj_rib.specs.declared.outcome.Outcome.{Outcome}
 use Rattle.adj_rib.specs.declared.outcome.Outcome.TheVariants as outcome
 use Rattle.adj_rib.specs.Steps.{Step, break, clear, announce, withdraw, is_up, unit_steps, steps_of}
 use Rattle.adj_rib.specs.Tables.{route_at, table_of}
-use Rattle.adj_rib.specs.Churns.{damaged_of, first_time, is_break, is_outcome, is_routing, last_time, reading_of, stopped}
+use Rattle.adj_rib.specs.Churns.{damaged_of, fault_of, first_time, is_break, is_outcome, is_routing, last_time, reading_of, stopped}
 use Rattle.adj_rib.specs.Selecting.{chooses, selected_entries}
 
 -- ---- what a step does to keys
@@ -129,7 +129,7 @@ churn_by notes flags units = record {
   void = stopped (count_by (has_outcome outcome.Void) notes);
   resets = stopped (count_by (λ unit. is_break (reading_of unit)) units);
   idle = stopped (count_by (λ flag. flag) flags);
-  refused = stopped (count_by (λ unit. is_err (reading_of unit)) units);
+  refused = stopped (count_by (λ unit. is_some (fault_of (reading_of unit))) units);
   first = first_time units;
   last = last_time units;
 }

@@ -1,6 +1,6 @@
 -- What one step, and one unit, does to what a session keeps and to what is kept of the notes on it, where the routes of
 -- some keys alone are kept: the rules one at a time, as the code follows them.
-use Rattle.std.specs.Prelude.{◌≡◌, Bool, List, [], ◌∷◌, map, Option, Some, None, Result, Ok, Err, if◌then◌else◌}
+use Rattle.std.specs.Prelude.{◌≡◌, Bool, List, [], ◌∷◌, map, Option, Some, None, Result, if◌then◌else◌}
 use Rattle.std.specs.List.{fold}
 use Rattle.std.specs.FinMap as finite
 use Rattle.bgp_prefix.specs.Keys.{RouteKey}
@@ -16,8 +16,8 @@ use Rattle.adj_rib.specs.declared.outcome.Outcome.{Outcome}
 use Rattle.adj_rib.specs.declared.outcome.Outcome.TheVariants as outcome
 use Rattle.adj_rib.specs.Plain.{Note}
 use Rattle.adj_rib.specs.Steps.{Step, break, clear, announce, withdraw, reading_steps}
-use Rattle.adj_rib.specs.Churns.{damage_in, reading_of}
-use Rattle.adj_rib.specs.Applied.{RibState, RouteMap, applied, counted, established_after, listed, noted, refused, timed_by, up_after}
+use Rattle.adj_rib.specs.Churns.{damage_at, reading_of}
+use Rattle.adj_rib.specs.Applied.{RibState, RouteMap, applied, counted, established_after, listed, noted, timed_by, up_after}
 use Rattle.adj_rib.specs.Selecting.{selected_steps}
 use Rattle.adj_rib.specs.Histories.{announced_note, withdrawn_note, lost_note, meets_choice, outcome_noted}
 
@@ -85,11 +85,11 @@ Follows keep selects reading seen now = now ≡ followed_noting keep selects see
 
 -- after a unit at a place, by its reading
 abbrev pub read_noting : {K : Type 0} → (K → Note → K) → (RouteKey → Bool) → RibState × K → Place → Result Event Fault → RibState × K
-read_noting keep selects seen place (Ok e) = followed_noting keep selects seen (Ok e)
-read_noting keep selects seen place (Err fault) = (refused seen.0 (record { place = place; fault = fault }), seen.1)
+read_noting keep selects seen place reading =
+    let after = followed_noting keep selects seen reading in
+    (record after.0 { faults = listed seen.0.faults (damage_at place reading) }, after.1)
 
 -- after one more unit
 unfoldable pub taken_noting : {K : Type 0} → (K → Note → K) → (RouteKey → Bool) → RibState × K → ReplayUnit → RibState × K
 taken_noting keep selects seen unit =
-    let after = followed_noting keep selects (record seen.0 { churn = timed_by unit seen.0.churn }, seen.1) (reading_of unit) in
-    (record after.0 { faults = listed seen.0.faults (damage_in unit (reading_of unit)) }, after.1)
+    read_noting keep selects (record seen.0 { churn = timed_by unit seen.0.churn }, seen.1) unit.place (reading_of unit)

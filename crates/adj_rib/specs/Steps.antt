@@ -70,8 +70,9 @@ event_steps up (event.Change update) = if up then update_steps update else []
 event_steps up (event.Rib key route) = if up then announce key route ∷ [] else []
 event_steps up event.Other = []
 event_steps up event.Clear = clear ∷ []
+event_steps up (event.Handled fault update) = if up then update_steps update else []
 
--- a damaged unit takes no step
+-- a damaged unit about which nothing is done takes no step
 abbrev pub reading_steps : Bool → Result Event Fault → List Step
 reading_steps up (Ok e) = event_steps up e
 reading_steps up (Err fault) = []

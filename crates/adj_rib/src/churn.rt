@@ -33,7 +33,7 @@ pub struct Churn {
     pub resets: u64,
     /// UPDATEs and RIB entries, undamaged, while the peer wasn't up.
     pub idle: u64,
-    /// Damaged units.
+    /// Damaged units, whatever is done about them.
     pub refused: u64,
     /// The time of the first unit that was recorded.
     pub first: Option<u64>,
@@ -63,6 +63,15 @@ impl Churn {
             first: None,
             last: None,
         }
+    }
+
+    /// How often a key was announced or withdrawn. Stops at `u64::MAX`.
+    pub fn keys(&self) -> u64 {
+        self.added
+            .saturating_add(self.changed)
+            .saturating_add(self.same)
+            .saturating_add(self.gone)
+            .saturating_add(self.void)
     }
 
     /// Returns the counts before a unit of this time, if it is before this second, and otherwise those after it.

@@ -20,6 +20,8 @@
 //!   turns; in loops of their own the misses overlap. Prefetching has no contract and needs none.
 //! - An announcement descends the map once: what `insert` returns shows whether the key was new, changed or the same.
 //! - An entry of a peer that isn't up is read too, since a damaged one is listed.
+//! - What is done about a damaged unit (RFC 7606) is an update as any other, and its steps are taken as such; beside
+//!   that the unit is listed. It has code of its own (`take_handled`), so that units without damage pay nothing for it.
 //! - `retain` leaves the chosen routes of chosen prefixes in a table before a report. It makes the table anew of the
 //!   keys that stay, and tests each route once, by its number. It is the last step, since the session then no longer
 //!   stands for its units.

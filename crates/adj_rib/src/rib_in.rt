@@ -147,9 +147,32 @@ impl<F: Unicast, M: PrefixMap<RouteId, Addr = F> + Drop> RibIn<M> {
         Ok(())
     }
 
+    /// Lists a damaged unit about which something is done, and takes the steps of that on chosen keys.
+    #[cold]
+    #[inline(never)]
+    #[tactic(auto, unfolding(crate::specs::Noting::followed_noting, crate::specs::Applied::noted, crate::specs::Applied::refused))]
+    fn take_handled<C: Chooses<F>, N: Notes<F>>(
+        &mut self,
+        alloc: Global,
+        chosen: &C,
+        notes: &mut N,
+        damage: Damage,
+        update: &UpdateRef<'_, Prefix<F>>,
+    ) -> Result<(), Memory>
+        ensures { OnOk result ((rib_state_in self.new, N.kept notes.new)
+            ≡ read_noting N.keep (C.is_chosen chosen.now) (rib_state_in self.old, N.kept notes.old) damage.place
+            (Ok (events.Handled damage.fault (plain_update update.now)))) }
+    {
+        self.list_damage(damage)?;
+        if self.up {
+            self.counted.apply_update(alloc, chosen, notes, update)?;
+        }
+        Ok(())
+    }
+
     /// Follows what the unit at a place means.
     #[inline(always)]
-    #[tactic(auto, unfolding(crate::specs::Noting::followed_noting, crate::specs::Applied::noted))]
+    #[tactic(auto, unfolding(crate::specs::Noting::followed_noting, crate::specs::Applied::noted, crate::specs::Applied::refused))]
     fn follow<C: Chooses<F>, N: Notes<F>>(
         &mut self,
         alloc: Global,
@@ -168,6 +191,9 @@ impl<F: Unicast, M: PrefixMap<RouteId, Addr = F> + Drop> RibIn<M> {
             EventRef::State(old, new, rule) => self.change_state(alloc, notes, old, new, rule),
             EventRef::Other => Ok(()),
             EventRef::Clear => self.clear(alloc, notes),
+            EventRef::Handled(fault, update) => {
+                self.take_handled(alloc, chosen, notes, Damage { place, fault }, &update)
+            }
             EventRef::Damaged(fault) => self.list_damage(Damage { place, fault }),
         }
     }

@@ -55,9 +55,9 @@ impl<F: Unicast, M: PrefixMap<RouteId, Addr = F> + Drop> Session<M> {
         }
     }
 
-    /// Takes the next unit: its event changes the table (RFC 4271, 4.3 and 8), or it is damaged and is
-    /// listed. After an `Err` the session is spent: each further `take` returns `Err`, and the results of the other
-    /// calls, except `is_spent`, no longer mean anything.
+    /// Takes the next unit: its event changes the table (RFC 4271, 4.3 and 8). A damaged one is listed, and what is done
+    /// about it, if anything is, changes the table (RFC 7606). After an `Err` the session is spent: each further `take`
+    /// returns `Err`, and the results of the other calls, except `is_spent`, no longer mean anything.
     pub fn take(&mut self, alloc: Global, unit: &UnitOf<F>) -> Result<(), Memory>
         ensures stands { (before : List ReplayUnit) → IsSessionOf self.old before →
             OnOk result (IsSessionOf self.new (before ++ unit.now ∷ [])) }

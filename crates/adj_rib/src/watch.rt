@@ -55,9 +55,9 @@ impl<F: Unicast, M: PrefixMap<RouteId, Addr = F> + Drop> Watch<M> {
         }
     }
 
-    /// Takes the next unit, which means this, and notes what it does to chosen routes of chosen prefixes. A damaged unit
-    /// is listed. The unit is counted unless it is before the second `since`, since 1970 UTC. After an `Err` the watch
-    /// no longer stands for units, and some of the notes may have been made.
+    /// Takes the next unit, which means this, and notes what it does to chosen routes of chosen prefixes. A damaged
+    /// unit is listed, whatever is done about it. The unit is counted unless it is before the second `since`, since
+    /// 1970 UTC. After an `Err` the watch no longer stands for units, and some of the notes may have been made.
     pub fn take<N: Notes<F>>(
         &mut self,
         alloc: Global,
@@ -103,6 +103,11 @@ impl<F: Unicast, M: PrefixMap<RouteId, Addr = F>> Watch<M> {
         self.rib.up
     }
 
+    /// Whether the session is established, as far as state changes tell.
+    pub fn is_established(&self) -> bool {
+        self.rib.established
+    }
+
     /// The routes of chosen prefixes that the peer announced and neither withdrew nor lost with its session.
     pub fn table(&self) -> &RouteTable<M>
         ensures { finite.entries result.now ≡ self.now.table }
@@ -115,6 +120,11 @@ impl<F: Unicast, M: PrefixMap<RouteId, Addr = F>> Watch<M> {
         ensures { result ≡ self.now.churn }
     {
         self.rib.counted.churn.with_outcomes(self.outcomes)
+    }
+
+    /// The same, whatever routes are chosen.
+    pub fn whole_churn(&self) -> Churn {
+        self.rib.counted.churn
     }
 
     /// The damaged units, in the order in which they were taken.

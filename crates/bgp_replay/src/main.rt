@@ -21,7 +21,7 @@
 #![tactic(auto)]
 
 ghost use Rattle.std.specs.Prelude.{◌≡◌, ◌≤◌, ◌*◌, map, min, IfOk, IsTrue};
-ghost use Rattle.bgp_update.specs.Families.{rules_of};
+ghost use Rattle.bgp_update.specs.Families.{by_errors, rules_of};
 ghost use Rattle.mrt_frame.specs.Devices.{counted_device, counted_failures, counted_flush};
 ghost use Rattle.mrt_replay.specs.Headline.{IsPromised};
 ghost use Rattle.report_request.specs.Requests.{request_of};
@@ -46,8 +46,8 @@ use replay_io::{
     header_of, inputs_of, packed_files_of, terminal_width,
 };
 use replay_messages::{
-    has_ended_early, listed_dumps, listed_prefixes, tell, tell_memory, tell_notes, tell_open,
-    tell_summary, tell_write,
+    NoteContext, has_ended_early, listed_dumps, listed_prefixes, tell, tell_memory, tell_notes,
+    tell_open, tell_summary, tell_write,
 };
 use replay_summary::{Summary, status};
 use report_request::{Format, Request};
@@ -186,7 +186,7 @@ fn selection_of<F: Unicast>(alloc: Global, job: &Job<F>) -> Result<Selection<F>,
       state_peers = job.now.state_peers;
       ribs = job.now.ribs;
       table_dumps = job.now.table_dumps;
-      rules = rules_of F.family job.now.layout.attributes;
+      rules = by_errors job.now.errors (rules_of F.family job.now.layout.attributes);
       routes = job.now.routes;
     }) }
 {
@@ -205,6 +205,7 @@ fn selection_of<F: Unicast>(alloc: Global, job: &Job<F>) -> Result<Selection<F>,
             .by_ribs(job.ribs)
             .by_table_dumps(job.table_dumps)
             .keeping(job.layout.attributes)
+            .by_errors(job.errors)
             .of_routes(routes),
     )
 }
@@ -456,6 +457,21 @@ fn replay_ahead<F: Replayed, R: Threads + Sync>(
     outcome
 }
 
+/// Returns what notes depend on of what a job asks for.
+fn note_context_of<F: Replayed>(job: &Job<F>) -> NoteContext {
+    NoteContext {
+        family: F::FAMILY,
+        ribs: job.ribs,
+        state_peers: job.state_peers,
+        of_prefixes: !job.prefixes.is_empty(),
+        of_share: job.share.is_some(),
+        has_since: match &job.request {
+            Request::Churn { since } | Request::History { since, same: _ } => since.is_some(),
+            _ => false,
+        },
+    }
+}
+
 /// Returns the line of the columns' names, if the job asks for it and its lines are text.
 fn header_of_job<F: Unicast>(alloc: Global, job: &Job<F>) -> Result<String, AllocError> {
     match job.layout.format {
@@ -507,7 +523,7 @@ fn replay_files<F: Replayed>(
     }
     tell(rt, &outcome, &job.request, inputs.as_slice(), &out);
     if let (Ok(summary), false) = (&outcome, job.quiet) {
-        tell_notes(rt, summary, watched.family, job.ribs, inputs.as_slice());
+        tell_notes(rt, summary, note_context_of(job), inputs.as_slice());
     }
     if job.summary {
         let elapsed = since(rt, start);

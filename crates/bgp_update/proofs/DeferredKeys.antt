@@ -81,7 +81,7 @@ value_keys family add_path types.MpReachNlri value = result_err (reached_in fami
 value_keys family add_path types.MpUnreachNlri value = result_err (unreached_in family add_path value)
 value_keys family add_path t value = None
 
-abbrev first_keys : FamilyOf → AttributeContext → AttributeType → Option (List ℕ) → List ℕ → Option Fault
+abbrev pub first_keys : FamilyOf → AttributeContext → AttributeType → Option (List ℕ) → List ℕ → Option Fault
 first_keys family RibEntry t o value = None
 first_keys family (Message add_path) t None value = value_keys family add_path t value
 first_keys family (Message add_path) t (Some first) value = None
@@ -94,7 +94,7 @@ head_first : {A B : Type 0} (r : Result A Fault) (f : A → Result B Fault) → 
 head_first (Ok x) f = refl
 head_first (Err fault) f = refl
 
-value_parts : (rules : RouteRules) (context : AttributeContext) (width : Width) (t : AttributeType) (value : List ℕ) → value_fault rules context width t value ≡ option_or (head_fault rules context width t value) (first_keys rules.family context t None value)
+pub value_parts : (rules : RouteRules) (context : AttributeContext) (width : Width) (t : AttributeType) (value : List ℕ) → value_fault rules context width t value ≡ option_or (head_fault rules context width t value) (first_keys rules.family context t None value)
 unfolding head_fault value_fault
 value_parts rules (Message add_path) width types.MpReachNlri value = head_first (reach_in rules.family value) _
 value_parts rules (Message add_path) width types.MpUnreachNlri value = head_first (unreach_in rules.family value) _

@@ -38,7 +38,7 @@ use Rattle.bgp_update.proofs.FromFirstValues.{route_from_same}
 use Rattle.bgp_update.proofs.Packings.{path_behind, kept_behind, spelled-bytes}
 use Rattle.bgp_update.proofs.Packable.{said_writable}
 
-spelled_if : (rules : RouteRules) (context : AttributeContext) (o : Option (List ℕ)) → IfSome o (IsFormed rules context Four AsPath) → IfSome o IsSpelled
+pub spelled_if : (rules : RouteRules) (context : AttributeContext) (o : Option (List ℕ)) → IfSome o (IsFormed rules context Four AsPath) → IfSome o IsSpelled
 spelled_if rules context None h = tt
 spelled_if rules context (Some value) h = subst IsSpelled (sym h.2) (spelled-bytes h.0 h.1)
 
@@ -143,7 +143,7 @@ unfolding route_from
 whole_route width first kept hop old mid new can fit few path second = kept_behind (by_hop (kept_route width first kept) hop) old mid new path can.writable fit few second
 
 -- values of attributes that fit are short
-values_short : (t : AttributeType) (attributes : List WrittenAttribute) → AllByRecursion FitsAttribute attributes → IfSome (value_of t attributes) IsShort
+pub values_short : (t : AttributeType) (attributes : List WrittenAttribute) → AllByRecursion FitsAttribute attributes → IfSome (value_of t attributes) IsShort
 values_short t [] fit = tt
 values_short t (a ∷ attributes) fit =
     elim (has_type t a) as (λ b. IfSome (cond b (Some a.value) (value_of t attributes)) IsShort) [

@@ -5,6 +5,9 @@ use Rattle.bgp_update.specs.declared.unicast.FamilyEncoding.{FamilyEncoding}
 use Rattle.bgp_update.specs.declared.kept_attribute.AttributeSet.{AttributeSet}
 use Rattle.bgp_update.specs.declared.width.Width.{Width}
 use Rattle.bgp_update.specs.declared.width.Width.TheVariants.{Four}
+use Rattle.bgp_update.specs.declared.error_rule.ErrorRule.{ErrorRule}
+use Rattle.bgp_update.specs.declared.error_rule.ErrorRule.TheVariants.{Skip}
+use Rattle.bgp_update.specs.ErrorRules.{rule_of_peer}
 
 -- What a family has of its own: its number, of two bytes; the bits of its addresses; whether an UPDATE's own fields,
 -- withdrawn routes, NLRI and NEXT_HOP (RFC 4271, 4.3), are of this family; and the subtypes of its RIB records (RFC
@@ -46,18 +49,26 @@ pub record RouteRules : Type 0 where
 abbrev pub route_rules_of : FamilyOf → AttributeSet → RouteRules
 route_rules_of family kept = record { family = family; kept = kept }
 
--- By which rules messages and entries are read: the same, and how wide AS numbers are in entries: four bytes (RFC 6396,
--- 4.3.4), or two in dumps before these (4.2).
+-- By which rules messages and entries are read: the same, how wide AS numbers are in entries: four bytes (RFC 6396,
+-- 4.3.4), or two in dumps before these (4.2), and what is done about damage.
 pub record Rules : Type 0 where
   pub family : FamilyOf
   pub kept : AttributeSet
   pub entry_width : Width
+  pub errors : ErrorRule
 
 abbrev pub rules_of : FamilyOf → AttributeSet → Rules
-rules_of family kept = record { family = family; kept = kept; entry_width = Four }
+rules_of family kept = record { family = family; kept = kept; entry_width = Four; errors = Skip }
 
 abbrev pub by_entry_width : Width → Rules → Rules
 by_entry_width width rules = record rules { entry_width = width }
+
+abbrev pub by_errors : ErrorRule → Rules → Rules
+by_errors errors rules = record rules { errors = errors }
+
+-- the rules for messages of a peer of another AS than the speaker's, or of the same one
+abbrev pub of_peer : Bool → Rules → Rules
+of_peer external rules = by_errors (rule_of_peer external rules.errors) rules
 
 abbrev pub route_rules : Rules → RouteRules
 route_rules rules = route_rules_of rules.family rules.kept

@@ -73,7 +73,7 @@ impl<'a> AskedValues<'a> {
 
     /// Checks an attribute that was found, and keeps its value if it is the first of its type: here where it has to be
     /// asked for, and there where it is looked at in any case.
-    fn take_found<F: Unicast>(
+    pub(crate) fn take_found<F: Unicast>(
         &mut self,
         first: &mut FirstValues<'a>,
         context: AttributeContext,
@@ -90,6 +90,7 @@ impl<'a> AskedValues<'a> {
         ensures err { IfErr result (RefusesAttribute (route_rules_of F.family self.old.asked) context width
             (all_values first.old self.old) (as_written found.now)) }
         ensures same { OnErr result (first.new ≡ first.old) }
+        ensures same_asked { OnErr result (self.new ≡ self.old) }
     {
         match KeptAttribute::of_code(found.code) {
             Some(attribute) => self.take(attribute, found.value),

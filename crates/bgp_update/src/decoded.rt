@@ -1,6 +1,6 @@
 //! Updates and routes that are decoded into blocks of memory, one after another.
 
-ghost use Rattle.std.specs.Prelude.{◌≡◌, ◌≤◌, ◌+◌, IfOk, length};
+ghost use Rattle.std.specs.Prelude.{◌≡◌, ◌==◌, ◌≤◌, ◌+◌, IfOk, length};
 ghost use Rattle.bgp_update.specs.Decoded as decoded;
 ghost use Rattle.bgp_update.specs.Decoded.{IsRouteAt, IsUpdateAt, IsWithin, plain_update, span_of, update_at};
 
@@ -60,7 +60,9 @@ impl Span {
 
     /// Whether it has no items.
     #[inline(always)]
-    fn is_empty(&self) -> bool {
+    pub(crate) fn is_empty(&self) -> bool
+        ensures { result ≡ (self.now.len == 0) }
+    {
         self.len == 0
     }
 

@@ -71,7 +71,7 @@ pub fn decode_asked_entry<F: Unicast>(
 }
 
 /// Returns the spans of the keys that were appended to so many, and of their routes.
-fn spans_of(
+pub(crate) fn spans_of(
     start: usize,
     appended: &AppendedKeys<'_>,
     route: RouteSpan,

@@ -23,6 +23,11 @@
 //!   behind others in one block of bytes, and what is returned says where they are (`UpdateSpans`, `RouteSpan`), with a
 //!   hash of each route's bytes. So a list of units is decoded without an allocation of its own. What was appended by
 //!   a message that turns out to be damaged is left there, and nothing refers to it.
+//! - **Damage is skipped or handled** (`ErrorRule`, RFC 7606). Where it is handled, a malformed attribute counts as
+//!   absent, and where that isn't enough, or announcements lack what they must have, all keys of the UPDATE are
+//!   withdrawn (`decode_handled_update`, `decode_handled_entry`, `taken_update`; `read_handled_update` and the others
+//!   beside it return the `Update`). Handling is a second reading, of what the first one found damaged: so what has no
+//!   damage is read as where it is skipped, and takes no longer. The law `handling_keeps_what_is_sound` ties the two.
 //! - **Each key is read once** (`read_keys`). When attributes are checked, those of MP_REACH_NLRI and MP_UNREACH_NLRI
 //!   are passed over, and they are appended behind that, even if an attribute had a fault: theirs comes before it.
 //! - Attributes are packed as they are read, without a `Route` in between; only a path of two-octet numbers, which may
@@ -39,9 +44,11 @@ mod attribute_context;
 mod attribute_type;
 mod decoded;
 mod decoding;
+mod error_rule;
 mod families;
 mod family_mark;
 mod front_bytes;
+mod handling;
 mod kept_attribute;
 mod kept_values;
 mod key;
@@ -61,6 +68,7 @@ mod route_fields;
 mod route_ref;
 mod rules;
 mod segment;
+mod sound_values;
 mod unicast;
 mod update;
 mod update_ref;
@@ -72,11 +80,16 @@ pub use attr_error::AttrError;
 pub use attribute_type::AttributeType;
 pub use decoded::{HashedRoute, RouteSpan, Span, UpdateSpans};
 pub use decoding::{decode_asked_entry, decode_asked_update, decode_entry, decode_update};
+pub use error_rule::ErrorRule;
 pub use family_mark::FamilyMark;
+pub use handling::{
+    decode_handled_entry, decode_handled_update, read_handled_entry, read_handled_update,
+    taken_update,
+};
 pub use kept_attribute::{AttributeSet, KeptAttribute};
 pub use kept_values::{KeptBlock, KeptValues};
 pub use key::prefix_at;
-pub use laws::{merging_is_unique, updates_agree_with_their_forms};
+pub use laws::{handling_keeps_what_is_sound, merging_is_unique, updates_agree_with_their_forms};
 pub use next_hop::NextHop;
 pub use packed_path::{PackedSegment, PackedSegments};
 pub use path::{AsPath, Segment, SegmentKind};

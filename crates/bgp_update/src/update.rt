@@ -34,15 +34,15 @@ use std::alloc::Global;
 
 /// The fields of an UPDATE.
 #[derive(Drop)]
-struct UpdateFields<'a> {
-    withdrawn: &'a [u8],
-    attributes: &'a [u8],
-    announced: &'a [u8],
+pub(crate) struct UpdateFields<'a> {
+    pub(crate) withdrawn: &'a [u8],
+    pub(crate) attributes: &'a [u8],
+    pub(crate) announced: &'a [u8],
 }
 
 /// Reads the fields of an UPDATE.
 #[tactic(auto, unfolding(crate::specs::Updates::fields_in))]
-fn fields_in(body: &[u8]) -> Result<UpdateFields<'_>, Fault>
+pub(crate) fn fields_in(body: &[u8]) -> Result<UpdateFields<'_>, Fault>
     ensures { Reads
         (λ f. record { withdrawn = f.withdrawn.now; attributes = f.attributes.now; announced = f.announced.now })
         result (updates.fields_in body.now) }
@@ -63,7 +63,7 @@ fn fields_in(body: &[u8]) -> Result<UpdateFields<'_>, Fault>
 
 /// Appends the keys of one of an UPDATE's own fields to other ones; none where they aren't of the family.
 #[inline(always)]
-fn append_own_keys<F: Unicast>(
+pub(crate) fn append_own_keys<F: Unicast>(
     keys: &mut Vec<RouteKey<Prefix<F>>>,
     field: &[u8],
     add_path: bool,
@@ -96,7 +96,7 @@ pub(crate) struct AppendedKeys<'a> {
 /// MP_REACH_NLRI, and those of the NLRI field. There were so many before those of the message.
 #[inline(always)]
 #[tactic(auto, unfolding(crate::specs::Decoded::behind_in))]
-fn append_behind<'a, F: Unicast>(
+pub(crate) fn append_behind<'a, F: Unicast>(
     keys: &mut Vec<RouteKey<Prefix<F>>>,
     announced: &[u8],
     kept: Result<(), Fault>,
@@ -185,7 +185,7 @@ pub(crate) fn read_asked_keys<'a, F: Unicast>(
 }
 
 /// Appends copies of keys.
-fn copy_keys<F: Unicast>(
+pub(crate) fn copy_keys<F: Unicast>(
     out: &mut Vec<RouteKey<Prefix<F>>>,
     keys: &[RouteKey<Prefix<F>>],
 ) -> Result<(), Memory>
@@ -196,7 +196,7 @@ fn copy_keys<F: Unicast>(
 }
 
 /// Returns the update of keys that were read, and of its route.
-fn update_of<F: Unicast>(
+pub(crate) fn update_of<F: Unicast>(
     alloc: Global,
     keys: &[RouteKey<Prefix<F>>],
     appended: &AppendedKeys<'_>,
@@ -242,7 +242,7 @@ fn whole_update<F: Unicast>(
 
 /// Returns the route of a RIB entry that the values describe: of a family that NEXT_HOP isn't of, by the next hop of
 /// MP_REACH_NLRI.
-fn entry_route<F: Unicast>(
+pub(crate) fn entry_route<F: Unicast>(
     alloc: Global,
     first: &FirstValues<'_>,
     width: Width,

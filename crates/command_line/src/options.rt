@@ -49,7 +49,7 @@ pub struct CommandRow {
     pub examples: &'static [&'static str],
 }
 
-pub static OPTIONS: [OptionRow; 27] = [
+pub static OPTIONS: [OptionRow; 28] = [
     OptionRow {
         name: "address",
         value: "A",
@@ -209,6 +209,16 @@ pub static OPTIONS: [OptionRow; 27] = [
         commands: "",
         is_required: false,
         meaning: "Say what is done with TABLE_DUMP records, as RIB dumps from before about 2008 and OpenBGPD's dump table have them. With aside they are counted and not read. With read each is an entry of its peer's table, with AS numbers of two bytes, and none begins a RIB dump for --rib replace",
+    },
+    OptionRow {
+        name: "errors",
+        value: "RULE",
+        takes: Takes::Text,
+        default: "skip",
+        offered: "skip rfc7606",
+        commands: "",
+        is_required: false,
+        meaning: "Say what is done about damaged messages and RIB entries. With skip they change no route. With rfc7606 they are taken as a speaker that follows RFC 7606 takes them. A malformed ATOMIC_AGGREGATE or AGGREGATOR counts as absent, and so does a malformed LOCAL_PREF, ORIGINATOR_ID or CLUSTER_LIST of a peer of another AS. For any other malformed attribute, and for a missing ORIGIN, AS_PATH or NEXT_HOP, a message withdraws all of its prefixes. One whose own prefixes, MP_REACH_NLRI or MP_UNREACH_NLRI can't be read is skipped, and so is an entry in which anything but the first two is malformed. Faults are listed and counted in either case",
     },
     OptionRow {
         name: "written-by",

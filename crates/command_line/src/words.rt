@@ -17,7 +17,7 @@ use crate::refusal::refusal_of;
 use crate::routes::{fault_of_mask, read_origin};
 use crate::written_by::{Daemon, DumpRules, NamedRules};
 use bgp_prefix::{Ipv6, Prefix};
-use bgp_update::{AttributeSet, FamilyMark, Unicast};
+use bgp_update::{AttributeSet, ErrorRule, FamilyMark, Unicast};
 use clap::error::ErrorKind;
 use clap::parser::ValueSource;
 use clap::{ArgMatches, Error};
@@ -54,6 +54,8 @@ pub struct Job<F: Unicast = u32> {
     pub ribs: RibRule,
     /// What is done with TABLE_DUMP records.
     pub table_dumps: TableDumpRule,
+    /// What is done about damage.
+    pub errors: ErrorRule,
     /// The prefixes that are chosen, or none for all.
     pub prefixes: Vec<PrefixChoice<Prefix<F>>>,
     /// The files whose lines add to them; `-` is standard input.
@@ -297,6 +299,19 @@ fn table_dumps_of(alloc: Global, matches: &ArgMatches<'_>) -> Result<TableDumpRu
         "read" => Ok(TableDumpRule::Read),
         text => Err(Usage::Words(format!(in alloc;
             "error: invalid value '{text}' for '--table-dump <RULE>': neither aside nor read\n"
+        )?)),
+    }
+}
+
+/// Returns what is done about damage.
+fn errors_of(alloc: Global, matches: &ArgMatches<'_>) -> Result<ErrorRule, Usage>
+    ensures { IfErr result IsRefusal }
+{
+    match matches.get_str("errors").unwrap_or("skip") {
+        "skip" => Ok(ErrorRule::Skip),
+        "rfc7606" => Ok(ErrorRule::Internal),
+        text => Err(Usage::Words(format!(in alloc;
+            "error: invalid value '{text}' for '--errors <RULE>': neither skip nor rfc7606\n"
         )?)),
     }
 }
@@ -593,6 +608,7 @@ fn job_of<F: AddressText>(
         ribs,
     } = dump_rules_of(alloc, matches)?;
     let table_dumps = table_dumps_of(alloc, matches)?;
+    let errors = errors_of(alloc, matches)?;
     let prefixes = prefixes_of::<F>(alloc, matches)?;
     let lists = texts_of(alloc, "prefixes", matches)?;
     let peers = peers_of(alloc, matches)?;
@@ -625,6 +641,7 @@ fn job_of<F: AddressText>(
         state_peers,
         ribs,
         table_dumps,
+        errors,
         prefixes,
         lists,
         peers,

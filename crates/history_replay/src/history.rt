@@ -14,6 +14,7 @@ use mrt_body::{Remarks, Units};
 use mrt_frame::{ReplayError, Source};
 use peer_tables::{Listing, Watched};
 use peer_units::Selection;
+use replay_summary::{PeerRemarks, remarks_on};
 use route_choice::ChosenRoutes;
 use std::alloc::Global;
 
@@ -29,6 +30,7 @@ where
     /// The number of chosen routes in the tables of all peers. Saturates at `u64::MAX`.
     pub routes: u64,
     pub remarks: Remarks,
+    pub peer_remarks: PeerRemarks,
 }
 
 /// Replays the files in order into the rows of what happened to chosen prefixes and their chosen routes.
@@ -63,12 +65,14 @@ where
     let Ok(routes) = count_routes(alloc, chosen.routes(), told.watches.watched()) else {
         return Err(ReplayError::Memory);
     };
+    let peer_remarks = remarks_on(told.watches.watched(), units.selection().peers());
     Ok(History {
         told,
         records: units.records(),
         aside: units.aside(),
         routes,
         remarks: units.remarks(),
+        peer_remarks,
     })
 }
 

@@ -5,8 +5,11 @@ use Rattle.bgp_prefix.specs.Keys.{RouteKey}
 use Rattle.mrt_frame.proofs.Hexadecimal.{hex}
 use Rattle.mrt_frame.specs.declared.fault.Fault.TheVariants.{BadAttribute}
 use Rattle.mrt_frame.specs.Fields.{items_after}
-use Rattle.bgp_update.specs.Families.{FamilyOf, ipv4, ipv6, rules_of}
+use Rattle.bgp_update.specs.Families.{FamilyOf, by_errors, ipv4, ipv6, rules_of}
+use Rattle.bgp_update.specs.Handling.{front_attributes, recovered_route, recovered_update}
 use Rattle.bgp_update.specs.KeptAttributes.{no_attributes}
+use Rattle.bgp_update.specs.declared.error_rule.ErrorRule.{ErrorRule}
+use Rattle.bgp_update.specs.declared.error_rule.ErrorRule.TheVariants.{External, Internal}
 use Rattle.bgp_update.specs.declared.width.Width.TheVariants.{Four}
 use Rattle.bgp_update.specs.declared.path.SegmentKind.TheVariants.{AsSequence}
 use Rattle.bgp_update.specs.declared.next_hop.NextHop.TheVariants as hop
@@ -149,4 +152,56 @@ examples = record {
   entry_of_key = refl;
   wide_announced_twice = refl;
   wide_withdrawn_twice = refl;
+}
+
+-- ---- damage that is handled
+
+abbrev handled_message : ErrorRule → List ℕ → ReplayUnit
+handled_message errors bytes = unit_of 1 (Message (hex (codes "FFFFFFFF FFFFFFFF FFFFFFFF FFFFFFFF") ++ bytes) Four false (by_errors errors (rules_of ipv4 no_attributes)))
+
+-- an UPDATE that announces 10.0.0.0/8 and whose ORIGIN is 3
+abbrev of_bad_origin : ErrorRule → ReplayUnit
+of_bad_origin errors = handled_message errors (hex (codes "002D 02 0000 0014 40010103 4002060201 0000FDE8 400304 C0000201 080A"))
+
+-- one whose ATOMIC_AGGREGATE has a byte
+abbrev of_long_atomic : ErrorRule → ReplayUnit
+of_long_atomic errors = handled_message errors (hex (codes "0031 02 0000 0018") ++ plain_attributes ++ hex (codes "400601 00 080A"))
+
+-- one whose LOCAL_PREF has three bytes
+abbrev of_short_preference : ErrorRule → ReplayUnit
+of_short_preference errors = handled_message errors (hex (codes "0033 02 0000 001A") ++ plain_attributes ++ hex (codes "400503 000064 080A"))
+
+-- one without ORIGIN
+abbrev of_no_origin : ErrorRule → ReplayUnit
+of_no_origin errors = handled_message errors (hex (codes "0029 02 0000 0010 4002060201 0000FDE8 400304 C0000201 080A"))
+
+-- an entry of 10.0.0.0/8 with these attributes
+abbrev handled_entry_of : List ℕ → ReplayUnit
+handled_entry_of attributes = unit_of 1 (Entry (by_errors Internal (rules_of ipv4 no_attributes)) ten attributes)
+
+handling : record {
+  -- a malformed ORIGIN withdraws what is announced (RFC 7606, 7.1), and nothing of a peer that isn't up
+  withdrawn : session_of (announcement ∷ of_bad_origin External ∷ []) ≡ record { up = true; established = true; table = []; churn = churn_with (1 ∷ 0 ∷ 0 ∷ 1 ∷ 0 ∷ 0 ∷ 0 ∷ 1 ∷ []) 1 1; arrivals = so_many 2; faults = record { place = somewhere; fault = BadAttribute 1 } ∷ []; spent = false };
+  while_down : session_of (announcement ∷ state_change 6 1 ∷ of_bad_origin External ∷ []) ≡ record { up = false; established = false; table = []; churn = churn_with (1 ∷ 0 ∷ 0 ∷ 0 ∷ 0 ∷ 1 ∷ 0 ∷ 1 ∷ []) 1 1; arrivals = so_many 3; faults = record { place = somewhere; fault = BadAttribute 1 } ∷ []; spent = false };
+  -- a malformed ATOMIC_AGGREGATE is discarded (7.6)
+  discarded : session_of (of_long_atomic Internal ∷ []) ≡ record { up = true; established = true; table = (ten, plain_route) ∷ []; churn = churn_with (1 ∷ 0 ∷ 0 ∷ 0 ∷ 0 ∷ 0 ∷ 0 ∷ 1 ∷ []) 1 1; arrivals = so_many 1; faults = record { place = somewhere; fault = BadAttribute 6 } ∷ []; spent = false };
+  -- so is a malformed LOCAL_PREF of an external peer, and one of an internal peer withdraws (7.5)
+  external_preference : session_of (of_short_preference External ∷ []) ≡ record { up = true; established = true; table = (ten, plain_route) ∷ []; churn = churn_with (1 ∷ 0 ∷ 0 ∷ 0 ∷ 0 ∷ 0 ∷ 0 ∷ 1 ∷ []) 1 1; arrivals = so_many 1; faults = record { place = somewhere; fault = BadAttribute 5 } ∷ []; spent = false };
+  internal_preference : session_of (of_short_preference Internal ∷ []) ≡ record { up = true; established = true; table = []; churn = churn_with (0 ∷ 0 ∷ 0 ∷ 0 ∷ 1 ∷ 0 ∷ 0 ∷ 1 ∷ []) 1 1; arrivals = so_many 1; faults = record { place = somewhere; fault = BadAttribute 5 } ∷ []; spent = false };
+  -- an announcement without ORIGIN withdraws (3 (d)), and is no fault
+  lacking : session_of (announcement ∷ of_no_origin External ∷ []) ≡ record { up = true; established = true; table = []; churn = churn_with (1 ∷ 0 ∷ 0 ∷ 1 ∷ 0 ∷ 0 ∷ 0 ∷ 0 ∷ []) 1 1; arrivals = so_many 2; faults = []; spent = false };
+  -- an entry loses a malformed AGGREGATOR, and is skipped for a malformed ORIGIN
+  entry_without : session_of (handled_entry_of (plain_attributes ++ hex (codes "C00702 FDE8")) ∷ []) ≡ record { up = true; established = true; table = (ten, plain_route) ∷ []; churn = churn_with (1 ∷ 0 ∷ 0 ∷ 0 ∷ 0 ∷ 0 ∷ 0 ∷ 1 ∷ []) 1 1; arrivals = so_many 1; faults = record { place = somewhere; fault = BadAttribute 7 } ∷ []; spent = false };
+  entry_skipped : session_of (announcement ∷ handled_entry_of (hex (codes "40010103")) ∷ []) ≡ record { up = true; established = true; table = (ten, plain_route) ∷ []; churn = churn_with (1 ∷ 0 ∷ 0 ∷ 0 ∷ 0 ∷ 0 ∷ 0 ∷ 1 ∷ []) 1 1; arrivals = so_many 2; faults = record { place = somewhere; fault = BadAttribute 1 } ∷ []; spent = false };
+}
+unfolding items_after attribute_at attributes_in value_fault route_from entry_route route_in path_in segment_at segment_field_at written_key_at keys_in route_keys_in key_at reach_in reach_at hop_at unreach_in next_hop_of reached_keys unreached_keys fields_in said_update update_in front_attributes recovered_route recovered_update message_in message_event_in event_in unit_steps steps_of route_eq outcomes_of churn_of arrivals_of damaged_of table_of session_of
+handling = record {
+  withdrawn = refl;
+  while_down = refl;
+  discarded = refl;
+  external_preference = refl;
+  internal_preference = refl;
+  lacking = refl;
+  entry_without = refl;
+  entry_skipped = refl;
 }

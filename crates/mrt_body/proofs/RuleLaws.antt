@@ -14,7 +14,7 @@ use Rattle.bgp_prefix.specs.Prefixes.{IpPrefix}
 use Rattle.bgp_prefix.specs.Keys.{RouteKey}
 use Rattle.bgp_update.specs.declared.width.Width.{Width}
 use Rattle.bgp_update.specs.declared.width.Width.TheVariants.{Two, Four}
-use Rattle.bgp_update.specs.Families.{Rules, by_entry_width}
+use Rattle.bgp_update.specs.Families.{Rules, by_entry_width, of_peer}
 use Rattle.mrt_body.specs.declared.record_place.RecordAt.{RecordAt}
 use Rattle.mrt_body.specs.declared.body_kind.BodyKind.{BodyKind}
 use Rattle.mrt_body.specs.declared.body_kind.BodyKind.TheVariants as content
@@ -56,7 +56,7 @@ module _ {X Y : Type 0} (P : Y → Type 0) (f : List X → X → List Y) (each :
   all_behind before (x ∷ xs) = All-append P (f before x) (flat_map_after f (before ++ x ∷ []) xs) (each before x) (all_behind (before ++ x ∷ []) xs)
 
 -- what holds of the payloads of entries and messages by the rules that are asked for, and of state changes by the rule
-module _ (selection : UnitSelection) (P : Payload → Type 0) (entry : (width : Width) (key : RouteKey) (attrs : List ℕ) → P (Entry (by_entry_width width selection.rules) key attrs)) (message : (bytes : List ℕ) (width : Width) (add_path : Bool) → P (Message bytes width add_path selection.rules)) (state : (from to : ℕ) → P (State from to selection.states)) where
+module _ (selection : UnitSelection) (P : Payload → Type 0) (entry : (width : Width) (key : RouteKey) (attrs : List ℕ) → P (Entry (by_entry_width width selection.rules) key attrs)) (message : (bytes : List ℕ) (width : Width) (add_path external : Bool) → P (Message bytes width add_path (of_peer external selection.rules))) (state : (from to : ℕ) → P (State from to selection.states)) where
   abbrev OfUnit : ReplayUnit → Type 0
   OfUnit unit = P unit.payload
 
@@ -82,7 +82,7 @@ module _ (selection : UnitSelection) (P : Payload → Type 0) (entry : (width : 
   unfolding message_unit
   message_by at extended width add_path body =
       bound OfUnit (microseconds_at extended body) _ (λ m.
-      bound OfUnit (session_peer_at width m.1) _ (λ p. message p.1 width add_path))
+      bound OfUnit (session_peer_at width m.1) _ (λ p. message p.1 width add_path p.0.external))
 
   changes_by : (at : RecordAt) (change : StateChange) (peers : List PeerKey) → OfUnits (map (change_unit selection.states at change) peers)
   changes_by at change [] = All-nil OfUnit
@@ -119,7 +119,7 @@ module _ (selection : UnitSelection) (P : Payload → Type 0) (entry : (width : 
   given_by (found.Unit unit ∷ fs) h = All-cons OfUnit unit (filter_map unit_of fs) (All-head OfFound (found.Unit unit) fs h) (given_by fs (All-tail OfFound (found.Unit unit) fs h))
   given_by (found.Refused damage ∷ fs) h = given_by fs (All-tail OfFound (found.Refused damage) fs h)
 
-module _ (selection : UnitSelection) (P : Payload → Type 0) (entry : (width : Width) (key : RouteKey) (attrs : List ℕ) → P (Entry (by_entry_width width selection.rules) key attrs)) (message : (bytes : List ℕ) (width : Width) (add_path : Bool) → P (Message bytes width add_path selection.rules)) (state : (from to : ℕ) → P (State from to selection.states))
+module _ (selection : UnitSelection) (P : Payload → Type 0) (entry : (width : Width) (key : RouteKey) (attrs : List ℕ) → P (Entry (by_entry_width width selection.rules) key attrs)) (message : (bytes : List ℕ) (width : Width) (add_path external : Bool) → P (Message bytes width add_path (of_peer external selection.rules))) (state : (from to : ℕ) → P (State from to selection.states))
     (cleared : (at : RecordAt) (index : Option (List PeerKey)) (dumps : DumpsState) (c : BodyKind) (body : List ℕ) → All (λ (unit : ReplayUnit). P unit.payload) (clears_at selection at index dumps c body)) where
   abbrev Of : Found → Type 0
   Of f = OfFound selection P entry message state f
@@ -156,7 +156,7 @@ clears_by rule at true [] = All-nil (λ (unit : ReplayUnit). IsByRule rule unit.
 clears_by rule at true (peer ∷ heard) = All-cons (λ (unit : ReplayUnit). IsByRule rule unit.payload) (clear_unit at peer) (clears_if true at heard) tt (clears_by rule at true heard)
 
 pub units_by : (selection : UnitSelection) (files : List (List ℕ)) → AreByRule selection.states (units_of selection files)
-units_by selection files = units_where selection (λ payload. IsByRule selection.states payload) (λ width key attrs. tt) (λ bytes width add_path. tt) (λ from to. refl) (λ at index dumps c body. clears_by selection.states at (begins selection at index dumps c body) dumps.heard) files
+units_by selection files = units_where selection (λ payload. IsByRule selection.states payload) (λ width key attrs. tt) (λ bytes width add_path external. tt) (λ from to. refl) (λ at index dumps c body. clears_by selection.states at (begins selection at index dumps c body) dumps.heard) files
 
 -- clears have no rules
 clears_of : (rules : Rules) (at : RecordAt) (begun : Bool) (heard : List PeerKey) → AreReadBy rules (clears_if begun at heard)
@@ -165,7 +165,7 @@ clears_of rules at true [] = All-nil (λ (unit : ReplayUnit). IsReadBy rules uni
 clears_of rules at true (peer ∷ heard) = All-cons (λ (unit : ReplayUnit). IsReadBy rules unit.payload) (clear_unit at peer) (clears_if true at heard) tt (clears_of rules at true heard)
 
 pub units_by_rules : (selection : UnitSelection) (files : List (List ℕ)) → AreReadBy selection.rules (units_of selection files)
-units_by_rules selection files = units_where selection (λ payload. IsReadBy selection.rules payload) (λ width key attrs. (width, refl)) (λ bytes width add_path. refl) (λ from to. tt) (λ at index dumps c body. clears_of selection.rules at (begins selection at index dumps c body) dumps.heard) files
+units_by_rules selection files = units_where selection (λ payload. IsReadBy selection.rules payload) (λ width key attrs. (width, refl)) (λ bytes width add_path external. (external, refl)) (λ from to. tt) (λ at index dumps c body. clears_of selection.rules at (begins selection at index dumps c body) dumps.heard) files
 
 -- where RIB dumps are added, none begins anew
 none_begins : (selection : UnitSelection) (at : RecordAt) (index : Option (List PeerKey)) (dumps : DumpsState) (c : BodyKind) (body : List ℕ) → selection.ribs ≡ Add → begins selection at index dumps c body ≡ false
@@ -182,5 +182,5 @@ none_begins selection at index dumps content.Aside body h = refl
 
 pub units_recorded : (selection : UnitSelection) (files : List (List ℕ)) → selection.ribs ≡ Add → All (λ unit. is_recorded unit.payload ≡ true) (units_of selection files)
 units_recorded selection files h =
-    units_where selection (λ payload. is_recorded payload ≡ true) (λ width key attrs. refl) (λ bytes width add_path. refl) (λ from to. refl)
+    units_where selection (λ payload. is_recorded payload ≡ true) (λ width key attrs. refl) (λ bytes width add_path external. refl) (λ from to. refl)
     (λ at index dumps c body. rw (none_begins selection at index dumps c body h) (All-nil (λ (unit : ReplayUnit). is_recorded unit.payload ≡ true))) files

@@ -8,7 +8,7 @@ use Rattle.mrt_frame.specs.Fields.{Reading, ◌>>=◌, number_at}
 use Rattle.mrt_frame.proofs.FieldLaws.{IsBytes, number_takes, number_at-again}
 use Rattle.bgp_update.specs.declared.width.Width.{Width}
 use Rattle.bgp_update.specs.Segments.{number_len}
-use Rattle.bgp_update.specs.Families.{Rules}
+use Rattle.bgp_update.specs.Families.{Rules, of_peer}
 use Rattle.bgp_update.proofs.Readings.{mapped_err}
 use Rattle.mrt_body.specs.declared.record_place.RecordAt.{RecordAt}
 use Rattle.peer_units.specs.declared.unit.PeerAddr.{PeerAddr}
@@ -17,7 +17,7 @@ use Rattle.mrt_body.specs.declared.bgp4mp.SessionEnds.{SessionEnds}
 use Rattle.mrt_body.specs.declared.bgp4mp.StateChange.{StateChange}
 use Rattle.mrt_body.specs.Many.{ended}
 use Rattle.mrt_body.specs.Indexes.{asn_bytes, addr_at, asn_at}
-use Rattle.mrt_body.specs.Bgp4mp.{SessionForm, session_bytes, session_ends, session_peer, family_at, session_at, session_ends_at, session_peer_at, states_in, change_with, state_change_in, microseconds_at, microseconds_bytes}
+use Rattle.mrt_body.specs.Bgp4mp.{SessionForm, session_bytes, session_ends, recorded_peer, family_at, session_at, session_ends_at, session_peer_at, states_in, change_with, state_change_in, microseconds_at, microseconds_bytes}
 use Rattle.mrt_body.specs.Units.{session_unit, message_unit}
 use Rattle.mrt_body.specs.Agreement.{IsStatesBody}
 use Rattle.mrt_body.specs.Refusals.{HasOtherFamily}
@@ -133,7 +133,7 @@ session_other width peer_as local_as interface family rest fa fb fi ff one two =
 
 peer_err : (width : Width) (bytes : List ℕ) (fault : Fault) → session_peer_at width bytes ≡ Err fault → session_at width bytes ≡ Err fault
 unfolding session_peer_at
-peer_err width bytes fault e = mapped_err (session_at width bytes) (λ s. (session_peer s.0, s.1)) fault e
+peer_err width bytes fault e = mapped_err (session_at width bytes) (λ s. (recorded_peer s.0, s.1)) fault e
 
 ends_err : (width : Width) (bytes : List ℕ) (fault : Fault) → session_ends_at width bytes ≡ Err fault → session_at width bytes ≡ Err fault
 unfolding session_ends_at
@@ -191,8 +191,8 @@ module _ (rules : Rules) (at : RecordAt) (extended : Bool) (width : Width) where
   pub message_refused : (add_path : Bool) (body : List ℕ) (fault : Fault) → IsBytes body → message_unit rules at extended width add_path body ≡ Err fault → ((fault ≡ BadFamily) × HasOtherFamily extended width body) ⊎ (fault ≡ ShortRecord)
   unfolding message_unit
   message_refused add_path body fault fine e =
-      then_short (microseconds_at extended body) (λ m. session_peer_at width m.1 >>= λ peer. Ok (session_unit at m.0 peer.0 (Message peer.1 width add_path rules))) fault (microseconds_short extended body) (λ m m_is me.
-      other_family extended width body fault m fine m_is (peer_err width m.1 fault (mapped_err (session_peer_at width m.1) (λ peer. session_unit at m.0 peer.0 (Message peer.1 width add_path rules)) fault me))) e
+      then_short (microseconds_at extended body) (λ m. session_peer_at width m.1 >>= λ peer. Ok (session_unit at m.0 peer.0.key (Message peer.1 width add_path (of_peer peer.0.external rules)))) fault (microseconds_short extended body) (λ m m_is me.
+      other_family extended width body fault m fine m_is (peer_err width m.1 fault (mapped_err (session_peer_at width m.1) (λ peer. session_unit at m.0 peer.0.key (Message peer.1 width add_path (of_peer peer.0.external rules))) fault me))) e
 
   pub message_other : (add_path : Bool) (body : List ℕ) → HasOtherFamily extended width body → message_unit rules at extended width add_path body ≡ Err BadFamily
   unfolding message_unit

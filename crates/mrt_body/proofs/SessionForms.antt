@@ -8,17 +8,16 @@ use Rattle.mrt_frame.proofs.Items.{bind_ok, ok_is}
 use Rattle.mrt_frame.proofs.FieldLaws.{IsBytes, number_takes, number_at-again}
 use Rattle.bgp_update.specs.declared.width.Width.{Width}
 use Rattle.bgp_update.specs.Segments.{number_len}
-use Rattle.bgp_update.specs.Families.{Rules}
+use Rattle.bgp_update.specs.Families.{Rules, of_peer}
 use Rattle.mrt_body.specs.declared.record_place.RecordAt.{RecordAt}
 use Rattle.peer_units.specs.declared.unit.PeerAddr.{PeerAddr}
-use Rattle.peer_units.specs.declared.unit.PeerKey.{PeerKey}
 use Rattle.peer_units.specs.declared.unit.Payload.TheVariants.{Message}
 use Rattle.peer_units.specs.Plain.{Unit as ReplayUnit}
 use Rattle.mrt_body.specs.declared.bgp4mp.SessionEnds.{SessionEnds}
 use Rattle.mrt_body.specs.declared.bgp4mp.StateChange.{StateChange}
 use Rattle.mrt_body.specs.Many.{ended}
 use Rattle.mrt_body.specs.Indexes.{addr_bytes, is_ipv6, asn_bytes, addr_at, asn_at}
-use Rattle.mrt_body.specs.Bgp4mp.{SessionForm, family_of, session_bytes, FitsSession, session_ends, session_peer, family_at, session_at, session_ends_at, session_peer_at, states_in, change_with, state_change_in, microseconds_at, microseconds_bytes, FitsMicroseconds}
+use Rattle.mrt_body.specs.Bgp4mp.{RecordedPeer, SessionForm, family_of, session_bytes, FitsSession, session_ends, recorded_peer, family_at, session_at, session_ends_at, session_peer_at, states_in, change_with, state_change_in, microseconds_at, microseconds_bytes, FitsMicroseconds}
 use Rattle.mrt_body.specs.Units.{session_unit, message_unit}
 use Rattle.mrt_body.specs.Agreement.{IsMessageBody, IsStatesBody}
 use Rattle.mrt_body.proofs.PeerForms.{addr_takes, addr_again}
@@ -102,18 +101,18 @@ session_again width s rest h =
 
 -- ---- the peer of a session
 
-pub record TakesPeer (width : Width) (bytes : List ℕ) (peer : PeerKey) (rest : List ℕ) : Type 0 where
+pub record TakesPeer (width : Width) (bytes : List ℕ) (peer : RecordedPeer) (rest : List ℕ) : Type 0 where
   pub session : SessionForm
   pub takes : TakesSession width bytes session rest
-  pub same : session_peer session ≡ peer
+  pub same : recorded_peer session ≡ peer
 
-pub peer_takes : (width : Width) (bytes : List ℕ) (x : PeerKey × List ℕ) → IsBytes bytes → session_peer_at width bytes ≡ Ok x → TakesPeer width bytes x.0 x.1
+pub peer_takes : (width : Width) (bytes : List ℕ) (x : RecordedPeer × List ℕ) → IsBytes bytes → session_peer_at width bytes ≡ Ok x → TakesPeer width bytes x.0 x.1
 unfolding session_peer_at
 peer_takes width bytes x fine e =
-    let s = bind_ok (session_at width bytes) (λ s. Ok (session_peer s.0, s.1)) x e in
-    subst (λ (y : PeerKey × List ℕ). TakesPeer width bytes y.0 y.1) (ok_is (session_peer s.0.0, s.0.1) x s.2) (record { session = s.0.0; takes = session_takes width bytes s.0 fine s.1; same = refl })
+    let s = bind_ok (session_at width bytes) (λ s. Ok (recorded_peer s.0, s.1)) x e in
+    subst (λ (y : RecordedPeer × List ℕ). TakesPeer width bytes y.0 y.1) (ok_is (recorded_peer s.0.0, s.0.1) x s.2) (record { session = s.0.0; takes = session_takes width bytes s.0 fine s.1; same = refl })
 
-pub peer_again : (width : Width) (s : SessionForm) (rest : List ℕ) → FitsSession width s → session_peer_at width (session_bytes width s ++ rest) ≡ Ok (session_peer s, rest)
+pub peer_again : (width : Width) (s : SessionForm) (rest : List ℕ) → FitsSession width s → session_peer_at width (session_bytes width s ++ rest) ≡ Ok (recorded_peer s, rest)
 unfolding session_peer_at
 peer_again width s rest h = rw (session_again width s rest h) refl
 
@@ -134,11 +133,15 @@ microseconds_again false microseconds rest fits = ap (λ (n : ℕ). Ok (n, rest)
 
 -- ---- messages
 
+-- the unit of a message of this peer
+abbrev message_of : Rules → RecordAt → ℕ → Width → Bool → List ℕ → RecordedPeer → ReplayUnit
+message_of rules at microseconds width add_path message peer = session_unit at microseconds peer.key (Message message width add_path (of_peer peer.external rules))
+
 pub message_body-is : (rules : Rules) (at : RecordAt) (extended : Bool) (width : Width) (add_path : Bool) (body : List ℕ) (unit : ReplayUnit) → IsBytes body → message_unit rules at extended width add_path body ≡ Ok unit → IsMessageBody rules at extended width add_path body unit
 unfolding message_unit
 message_body-is rules at extended width add_path body unit fine e =
-    let m = bind_ok (microseconds_at extended body) (λ m. session_peer_at width m.1 >>= λ peer. Ok (session_unit at m.0 peer.0 (Message peer.1 width add_path rules))) unit e in
-    let p = bind_ok (session_peer_at width m.0.1) (λ peer. Ok (session_unit at m.0.0 peer.0 (Message peer.1 width add_path rules))) unit m.2 in
+    let m = bind_ok (microseconds_at extended body) (λ m. session_peer_at width m.1 >>= λ peer. Ok (message_of rules at m.0 width add_path peer.1 peer.0)) unit e in
+    let p = bind_ok (session_peer_at width m.0.1) (λ peer. Ok (message_of rules at m.0.0 width add_path peer.1 peer.0)) unit m.2 in
     let tm = microseconds_take extended body m.0 fine m.1 in
     let tp = peer_takes width m.0.1 p.0 tm.fine p.1 in
     record {
@@ -148,7 +151,7 @@ message_body-is rules at extended width add_path body unit fine e =
       fits_microseconds = tm.fits;
       fits_session = tp.takes.fits;
       spelled = tm.parts ∙ ap (λ (l : List ℕ). microseconds_bytes extended m.0.0 ++ l) tp.takes.parts;
-      said = sym (ap (λ (peer : PeerKey). session_unit at m.0.0 peer (Message p.0.1 width add_path rules)) tp.same ∙ ok_is (session_unit at m.0.0 p.0.0 (Message p.0.1 width add_path rules)) unit p.2);
+      said = sym (ap (message_of rules at m.0.0 width add_path p.0.1) tp.same ∙ ok_is (message_of rules at m.0.0 width add_path p.0.1 p.0.0) unit p.2);
     }
 
 pub message_body-again : (rules : Rules) (at : RecordAt) (extended : Bool) (width : Width) (add_path : Bool) (body : List ℕ) (unit : ReplayUnit) → IsMessageBody rules at extended width add_path body unit → message_unit rules at extended width add_path body ≡ Ok unit

@@ -1,5 +1,5 @@
 -- The units of a state change that are selected, and what they leave noted of their peers.
-use Rattle.std.proofs.Common.{◌≡◌, ℕ, ◌+◌, ◌≤◌, ◌&&◌, Bool, true, false, cond, List, [], ◌∷◌, ◌++◌, length, map, None, Result, Ok, refl, sym, ap, ◌∙◌, append-nil, arith}
+use Rattle.std.proofs.Common.{◌≡◌, ℕ, ◌+◌, ◌≤◌, ◌&&◌, Bool, true, false, cond, List, [], ◌∷◌, ◌++◌, length, map, None, Result, Ok, refl, sym, ap, subst, ◌∙◌, append-nil, arith}
 use Rattle.std.specs.Prelude.{if◌then◌else◌}
 use Rattle.std.specs.List.{filter}
 use Rattle.std.proofs.lemmas.List.{length-map, length-take}
@@ -28,6 +28,7 @@ use Rattle.mrt_body.specs.Readings.{GivesFew}
 use Rattle.mrt_body.specs.Units.{change_unit, change_units, dumps_told, found_units, time_of, units_in, units_or_none}
 use Rattle.mrt_body.proofs.HeardLaws.{few_heard}
 use Rattle.mrt_body.proofs.ManyLaws.{done}
+use Rattle.mrt_body.proofs.WaitingLaws.{both_none}
 
 -- ---- how many peers a state change is of
 
@@ -137,7 +138,7 @@ module _ (old : UnitsState) (at : RecordAt) (extended : Bool) (width : Width) (b
   all_wait : waiting ++ entries ≡ filter (is_selected old.selection) (change_units old.selection old.dumps.known at change)
   all_wait = ap (λ (l : List ReplayUnit). waiting ++ l) none ∙ append-nil waiting ∙ waits
 
-  pub takes_states : TakesRecord old at extended (content.States width) body new None
+  takes_states : TakesRecord old at extended (content.States width) body new None
   takes_states = record {
     state =
         ap (λ (d : DumpsState). record old { dumps = d; pending = waiting ++ entries }) (notes ∙ ap (λ (r : Result (List ReplayUnit) Fault). dumps_told old.selection false old.dumps (map (λ (u : ReplayUnit). u.peer) (units_or_none r)) r) (sym units_are))
@@ -150,7 +151,7 @@ module _ (old : UnitsState) (at : RecordAt) (extended : Bool) (width : Width) (b
       plus_none : old.aside ≡ old.aside + 0
       plus_none = omega arith
 
-  pub gives_few_states : length waiting ≤ 65535 → GivesFew old new None
+  gives_few_states : length waiting ≤ 65535 → GivesFew old new None
   gives_few_states few =
       omega (
         arith,
@@ -160,3 +161,17 @@ module _ (old : UnitsState) (at : RecordAt) (extended : Bool) (width : Width) (b
         ap (λ (d : DumpsState). length d.heard) notes,
         few_heard old.selection.ribs old.dumps.heard (filter (is_selected old.selection) (change_units old.selection old.dumps.known at change)),
       )
+
+-- both, of the state before under another name, where nothing was to be returned
+pub states_taken : (old was : UnitsState) → old ≡ was → was.pending ≡ [] → (first entries : List ReplayUnit) → old.pending ≡ first ++ entries
+    → (at : RecordAt) (extended : Bool) (width : Width) (body : List ℕ) (change : StateChange) → state_change_in extended width body ≡ Ok change
+    → (dumps : DumpsState) (waiting : List ReplayUnit)
+    → waiting ≡ filter (is_selected old.selection) (change_units old.selection old.dumps.known at change)
+    → dumps ≡ dumps_told old.selection false old.dumps (map (λ (u : ReplayUnit). u.peer) (change_units old.selection old.dumps.known at change)) (Ok (change_units old.selection old.dumps.known at change))
+    → length waiting ≤ 65535
+    → TakesRecord was at extended (content.States width) body (record old { dumps = dumps; pending = waiting ++ entries }) None × GivesFew was (record old { dumps = dumps; pending = waiting ++ entries }) None
+states_taken old was is given first entries parts at extended width body change read dumps waiting waits notes few =
+    let none = (both_none first entries (sym parts ∙ ap (λ (u : UnitsState). u.pending) is ∙ given)).1 in
+    let new : UnitsState = record old { dumps = dumps; pending = waiting ++ entries } in
+    subst (λ (u : UnitsState). TakesRecord u at extended (content.States width) body new None × GivesFew u new None) is
+    (takes_states old at extended width body change read dumps waiting entries none waits notes, gives_few_states old at extended width body change read dumps waiting entries none waits notes few)

@@ -2,7 +2,7 @@
 -- (RFC 6396, 4.2 to 4.4, and 3 for extended timestamps; RFC 8050). And what such a body says.
 use Rattle.std.specs.Prelude.{◌≡◌, ℕ, ◌^◌, ◌<◌, Bool, List, [], ◌∷◌, ◌++◌, length, Option, Some, None}
 use Rattle.byteorder.specs.Endian.{big_bytes}
-use Rattle.bgp_update.specs.Families.{Rules, by_entry_width}
+use Rattle.bgp_update.specs.Families.{Rules, by_entry_width, of_peer}
 use Rattle.bgp_update.specs.declared.width.Width.{Width}
 use Rattle.bgp_update.specs.declared.width.Width.TheVariants.{Four}
 use Rattle.mrt_body.specs.declared.record_place.RecordAt.{RecordAt}
@@ -16,7 +16,7 @@ use Rattle.peer_units.specs.declared.unit.Payload.TheVariants.{Message}
 use Rattle.peer_units.specs.Plain.{Unit as ReplayUnit}
 use Rattle.mrt_body.specs.Indexes.{IndexForm, FitsIndex, index_bytes, peers_of_index}
 use Rattle.mrt_body.specs.RibRecords.{RibForm, FitsRib, rib_bytes}
-use Rattle.mrt_body.specs.Bgp4mp.{SessionForm, FitsSession, session_bytes, session_ends, session_peer, microseconds_bytes, FitsMicroseconds, change_with}
+use Rattle.mrt_body.specs.Bgp4mp.{SessionForm, FitsSession, session_bytes, session_ends, session_peer, is_external, microseconds_bytes, FitsMicroseconds, change_with}
 use Rattle.mrt_body.specs.declared.bgp4mp.StateChange.{StateChange}
 use Rattle.mrt_body.specs.OldEntries.{OldEntryForm, FitsOldEntry, old_entry_bytes}
 use Rattle.mrt_body.specs.Units.{change_units, old_unit, rib_units, session_unit}
@@ -43,7 +43,7 @@ IsRibBodyBeside rules at add_path None body units = ⊥
 IsRibBodyBeside rules at add_path (Some peers) body units = IsRibBody rules at add_path peers body units
 
 -- microseconds where the timestamp is extended, the session, and a message to the end, which may be empty; the unit has
--- the rules that were asked for
+-- the rules that were asked for, as they are for an external peer or another one
 pub record IsMessageBody
     (rules : Rules) (at : RecordAt) (extended : Bool) (width : Width) (add_path : Bool) (body : List ℕ) (unit : ReplayUnit)
     : Type 0 where
@@ -53,7 +53,8 @@ pub record IsMessageBody
   pub fits_microseconds : FitsMicroseconds extended microseconds
   pub fits_session : FitsSession width session
   pub spelled : body ≡ microseconds_bytes extended microseconds ++ (session_bytes width session ++ message)
-  pub said : unit ≡ session_unit at microseconds (session_peer session) (Message message width add_path rules)
+  pub said : unit ≡ session_unit at microseconds (session_peer session)
+      (Message message width add_path (of_peer (is_external session) rules))
 
 -- microseconds where the timestamp is extended, the session, old state 2, and new state 2
 pub record IsStatesBody (extended : Bool) (width : Width) (body : List ℕ) (change : StateChange) : Type 0 where

@@ -1,5 +1,5 @@
 -- The BGP4MP records: messages and state changes (RFC 6396, 4.4), with extended timestamps (RFC 6396, 3).
-use Rattle.std.specs.Prelude.{◌≡◌, ℕ, ◌^◌, ◌<◌, Bool, true, false, List, [], ◌++◌, Result, Ok, Err, ◌==◌, if◌then◌else◌}
+use Rattle.std.specs.Prelude.{◌≡◌, ℕ, ◌^◌, ◌<◌, Bool, true, false, List, [], ◌++◌, Result, Ok, Err, not, ◌==◌, if◌then◌else◌}
 use Rattle.byteorder.specs.Endian.{big_bytes}
 use Rattle.mrt_frame.specs.declared.fault.Fault.{Fault}
 use Rattle.mrt_frame.specs.declared.fault.Fault.TheVariants.{ShortRecord, BadFamily}
@@ -53,6 +53,18 @@ FitsMicroseconds false microseconds = microseconds ≡ 0
 abbrev pub session_peer : SessionForm → PeerKey
 session_peer f = record { asn = f.peer_as; addr = f.peer_addr }
 
+-- an external peer: one of another AS than the local end (RFC 4271, 1.1)
+abbrev pub is_external : SessionForm → Bool
+is_external f = not (f.peer_as == f.local_as)
+
+-- the peer as a message is told it
+pub record RecordedPeer : Type 0 where
+  pub key : PeerKey
+  pub external : Bool
+
+abbrev pub recorded_peer : SessionForm → RecordedPeer
+recorded_peer f = record { key = session_peer f; external = is_external f }
+
 abbrev pub session_ends : SessionForm → SessionEnds
 session_ends f = record { peer = session_peer f; local = record { asn = f.local_as; addr = f.local_addr } }
 
@@ -84,8 +96,8 @@ session_at width bytes = do
     local_addr.1,
   )
 
-unfoldable pub session_peer_at : Width → List ℕ → Reading PeerKey
-session_peer_at width bytes = session_at width bytes >>= λ s. Ok (session_peer s.0, s.1)
+unfoldable pub session_peer_at : Width → List ℕ → Reading RecordedPeer
+session_peer_at width bytes = session_at width bytes >>= λ s. Ok (recorded_peer s.0, s.1)
 
 unfoldable pub session_ends_at : Width → List ℕ → Reading SessionEnds
 session_ends_at width bytes = session_at width bytes >>= λ s. Ok (session_ends s.0, s.1)

@@ -10,7 +10,7 @@ use Rattle.mrt_frame.specs.declared.cut.Cut.{Cut}
 use Rattle.mrt_frame.specs.declared.cut.Cut.TheVariants.{Whole, Broken}
 use Rattle.mrt_frame.specs.Fields.{◌>>=◌}
 use Rattle.mrt_frame.specs.Cuts.{cuts}
-use Rattle.bgp_update.specs.Families.{FamilyOf, Rules, by_entry_width}
+use Rattle.bgp_update.specs.Families.{FamilyOf, Rules, by_entry_width, of_peer}
 use Rattle.bgp_update.specs.declared.width.Width.{Width}
 use Rattle.bgp_update.specs.declared.width.Width.TheVariants.{Two, Four}
 use Rattle.mrt_body.specs.declared.record_place.RecordAt.{RecordAt}
@@ -126,12 +126,12 @@ abbrev pub session_unit : RecordAt → ℕ → PeerKey → Payload → ReplayUni
 session_unit at microseconds peer payload =
     record { place = place_of at None; time = time_of at microseconds; peer = peer; payload = payload }
 
--- with the rules that are asked for
+-- with the rules that are asked for, as they are for its peer
 unfoldable pub message_unit : Rules → RecordAt → Bool → Width → Bool → List ℕ → Result ReplayUnit Fault
 message_unit rules at extended width add_path body = do
   microseconds ← microseconds_at extended body
   peer ← session_peer_at width microseconds.1
-  Ok (session_unit at microseconds.0 peer.0 (Message peer.1 width add_path rules))
+  Ok (session_unit at microseconds.0 peer.0.key (Message peer.1 width add_path (of_peer peer.0.external rules)))
 
 -- a state change of a peer, with the rule that is asked for
 abbrev pub change_unit : StateRule → RecordAt → StateChange → PeerKey → ReplayUnit
@@ -168,7 +168,8 @@ old_units Aside rules at body = Ok []
 old_units Read rules at body = alone (old_entry_unit rules at body)
 
 -- The units of a whole record, or its fault; index tables and records aside give none. Messages and entries have the
--- rules, and state changes the rule, that are asked for. State changes may be those of known peers.
+-- rules that are asked for, messages as they are for their peer, and state changes the rule. State changes may be those
+-- of known peers.
 abbrev pub units_in : UnitSelection → List PeerKey → RecordAt → Bool → Option (List PeerKey) → BodyKind → List ℕ → Result (List ReplayUnit) Fault
 units_in selection known at extended index content.IndexTable body = peers_in body >>= λ peers. Ok []
 units_in selection known at extended index (content.Rib add_path) body =

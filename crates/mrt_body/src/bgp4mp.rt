@@ -16,6 +16,13 @@ pub(crate) struct SessionEnds {
     pub(crate) local: PeerKey,
 }
 
+/// The peer of a session, and whether it is of another AS than the local end.
+#[derive(Clone, Copy)]
+pub(crate) struct SessionPeer {
+    pub(crate) key: PeerKey,
+    pub(crate) is_external: bool,
+}
+
 /// A state change: of which session, in which microsecond of its second, and its old and new state.
 #[derive(Clone, Copy)]
 pub(crate) struct StateChange {
@@ -50,16 +57,21 @@ pub(crate) fn microseconds_at(body: &[u8], is_extended: bool) -> Result<(u32, &[
 
 /// Returns the peer of a session, and the bytes after the session's fields.
 #[tactic(auto, unfolding(crate::specs::Bgp4mp::session_peer_at, crate::specs::Bgp4mp::session_at))]
-pub(crate) fn session_peer_at(bytes: &[u8], width: Width) -> Result<(PeerKey, &[u8]), Fault>
-    ensures { Reads (λ x. (x.0, x.1.now)) result (bgp4mp.session_peer_at width bytes.now) }
+pub(crate) fn session_peer_at(bytes: &[u8], width: Width) -> Result<(SessionPeer, &[u8]), Fault>
+    ensures { Reads (λ x. (record { key = x.0.key; external = x.0.is_external }, x.1.now)) result
+        (bgp4mp.session_peer_at width bytes.now) }
 {
     let (asn, rest) = asn_at(bytes, width)?;
-    let (_, rest) = asn_at(rest, width)?;
+    let (local_asn, rest) = asn_at(rest, width)?;
     let (_, rest) = u16_at(rest, Fault::ShortRecord)?;
     let (is_ipv6, rest) = family_at(rest)?;
     let (addr, rest) = addr_at(rest, is_ipv6)?;
     let (_, rest) = addr_at(rest, is_ipv6)?;
-    Ok((PeerKey { asn, addr }, rest))
+    let peer = SessionPeer {
+        key: PeerKey { asn, addr },
+        is_external: asn != local_asn,
+    };
+    Ok((peer, rest))
 }
 
 /// Returns both ends of a session, and the bytes after its fields.

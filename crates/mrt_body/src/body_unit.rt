@@ -59,7 +59,7 @@ pub(crate) type BodyUnit<F> = Unit<BodyEnd, Prefix<F>, Rules<F>>;
 
 /// Returns the bytes of a payload: none of a state change or a clear.
 #[inline(always)]
-fn bytes_of<F: Unicast>(payload: &Payload<BodyEnd, Prefix<F>, Rules<F>>) -> &[u8]
+pub(crate) fn bytes_of<F: Unicast>(payload: &Payload<BodyEnd, Prefix<F>, Rules<F>>) -> &[u8]
     ensures own { result.now ≡ payload_bytes payload.now }
     ensures few { length result.now ≤ body_limit }
 {

@@ -71,7 +71,8 @@ pub fn units_have_their_rule()
         AreByRule selection.states (units_of selection files) }
 {}
 
-/// Each message and each entry has the rules that the selection asks for, an entry with the width of its AS numbers.
+/// Each message and each entry has the rules that the selection asks for: a message as they are for its peer, which
+/// differ where damage is handled alone, and an entry with the width of its AS numbers.
 pub fn units_have_their_rules()
     ensures { (selection : UnitSelection) (files : List (List ℕ)) →
         AreReadBy selection.rules (units_of selection files) }

@@ -29,7 +29,9 @@
 mod bgp4mp;
 mod body_kind;
 mod body_unit;
+mod end_of_rib;
 mod entries;
+mod few;
 mod known_peers;
 mod laws;
 mod lent_units;
@@ -45,6 +47,7 @@ mod units;
 mod waiting;
 
 pub use body_kind::{BodyKind, body_kind_of};
+pub use few::Few;
 pub use laws::{
     added_dumps_clear_nothing, bodies_agree_with_their_forms, readings_give_all_found,
     units_have_their_rule, units_have_their_rules,

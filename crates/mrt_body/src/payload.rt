@@ -14,7 +14,8 @@ use bgp_update::{Rules, Unicast, Width};
 use mrt_frame::Fault;
 use peer_units::{Payload, PeerKey, StateRule, Unit};
 
-/// Returns the unit of a message, whose bytes are the end of the body.
+/// Returns the unit of a message, whose bytes are the end of the body, and which has these rules as they are for its
+/// peer.
 #[tactic(auto, unfolding(crate::specs::Units::message_unit))]
 pub(crate) fn message_unit<F: Unicast>(
     rules: Rules<F>,
@@ -32,15 +33,16 @@ pub(crate) fn message_unit<F: Unicast>(
     let (microseconds, after) = microseconds_at(bytes, is_extended)?;
     let (peer, rest) = session_peer_at(after, width)?;
     let start = bytes.len() - rest.len();
+    let told = rules.of_peer(peer.is_external);
     Ok(Unit {
         place: at.place(None),
         time: at.time(microseconds),
-        peer,
+        peer: peer.key,
         payload: Payload::Message {
             bytes: BodyEnd::new(body, start),
             width,
             add_path,
-            rules,
+            rules: told,
         },
     })
 }

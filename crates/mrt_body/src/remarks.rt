@@ -1,8 +1,13 @@
 //! Remarks on the records of files, for notes. No unit depends on them, and nothing is proved of them but that making
 //! them is safe.
 
+use crate::few::Few;
 use crate::rib::ListedEntry;
+use crate::waiting::Waiting;
+use bgp_update::Unicast;
+use peer_units::PeerKey;
 use std::alloc::Global;
+use std::collections::BTreeSet;
 
 /// The most files that are told by their numbers.
 const MOST_FILES: usize = 5;
@@ -135,6 +140,10 @@ pub struct Remarks {
     pub dumps: Marked,
     /// RIB records without path identifiers of which two entries are one peer's.
     pub repeats: Marked,
+    /// Peers whose End-of-RIB marker came again with no state change between (RFC 4724, 2).
+    pub begun_again: Few<PeerKey>,
+    /// Whether memory was refused for some of this, which is then missing.
+    pub is_partial: bool,
 }
 
 /// Looks at records for what is remarkable.
@@ -145,10 +154,14 @@ pub(crate) struct Remarker {
     is_dump_begun: bool,
     /// For each number of a peer, the number of the RIB record that named it last.
     named_by: Option<Vec<u64>>,
+    /// The peers whose End-of-RIB marker came since their last state change.
+    ended: BTreeSet<PeerKey>,
+    /// Those of `begun_again`.
+    begun_again: BTreeSet<PeerKey>,
 }
 
 impl Remarker {
-    pub(crate) fn new() -> Remarker {
+    pub(crate) fn new(alloc: Global) -> Remarker {
         Remarker {
             remarks: Remarks {
                 ribs: 0,
@@ -157,9 +170,13 @@ impl Remarker {
                 unread: Unread::new(),
                 dumps: Marked::new(),
                 repeats: Marked::new(),
+                begun_again: Few::new(),
+                is_partial: false,
             },
             is_dump_begun: false,
             named_by: None,
+            ended: BTreeSet::new(alloc),
+            begun_again: BTreeSet::new(alloc),
         }
     }
 
@@ -196,6 +213,38 @@ impl Remarker {
         self.remarks.ribs = self.remarks.ribs.saturating_add(1);
     }
 
+    /// Takes note of an End-of-RIB marker of this peer.
+    pub(crate) fn see_end_of_rib(&mut self, peer: PeerKey) {
+        let is_first = match self.ended.insert(peer) {
+            Ok(is_first) => is_first,
+            Err(_) => {
+                self.remarks.is_partial = true;
+                return;
+            }
+        };
+        if is_first {
+            return;
+        }
+        match self.begun_again.insert(peer) {
+            Ok(true) => self.remarks.begun_again.add(peer),
+            Ok(false) => {}
+            Err(_) => self.remarks.is_partial = true,
+        }
+    }
+
+    /// Takes note of state changes, which are the units to be returned.
+    pub(crate) fn see_states<F: Unicast>(&mut self, changes: &Waiting<F>) {
+        if self.ended.is_empty() {
+            return;
+        }
+        if let Some(unit) = changes.lend() {
+            self.ended.remove(&unit.peer);
+        }
+        for peer in changes.others().iter() {
+            self.ended.remove(peer);
+        }
+    }
+
     /// Takes note of a RIB record with these entries, against an index table of this many peers, and whether it is past
     /// the last second.
     pub(crate) fn see_rib(
@@ -217,7 +266,7 @@ impl Remarker {
         }
     }
 
-    /// Whether two of the entries are one peer's. Without memory none are said to be.
+    /// Whether two of the entries are one peer's.
     fn names_twice(&mut self, alloc: Global, peers: usize, entries: &[ListedEntry]) -> bool {
         let record = self.remarks.ribs;
         let named_by = match &mut self.named_by {
@@ -225,6 +274,7 @@ impl Remarker {
             None => self.named_by.insert(Vec::new(alloc)),
         };
         if named_by.len() < peers && named_by.resize(peers, 0).is_err() {
+            self.remarks.is_partial = true;
             return false;
         }
         let mut is_twice = false;

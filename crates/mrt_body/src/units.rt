@@ -104,7 +104,7 @@ impl<F: Unicast> Units<F> {
             records: 0,
             aside: 0,
             state: ReadState::Reading,
-            remarker: Remarker::new(),
+            remarker: Remarker::new(alloc),
         }
     }
 
@@ -127,6 +127,11 @@ impl<F: Unicast> Units<F> {
         ensures { result ≡ self.now.aside }
     {
         self.aside
+    }
+
+    /// Which units are selected.
+    pub fn selection(&self) -> &Selection<F> {
+        &self.selection
     }
 
     /// What is remarkable about the records that were cut. No unit depends on it.

@@ -142,6 +142,11 @@ impl<F: Unicast> Waiting<F> {
         self.first.as_ref()
     }
 
+    /// The peers of the units behind the next one.
+    pub(crate) fn others(&self) -> &VecDeque<PeerKey> {
+        &self.others
+    }
+
     /// Leaves the next unit behind, and returns the memory of its record, if it keeps it.
     #[inline(always)]
     pub(crate) fn consume(&mut self) -> Option<Vec<u8>>

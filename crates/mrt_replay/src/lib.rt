@@ -15,7 +15,6 @@
 //!   `WritesFront`, which say something about known bytes only.
 #![tactic(auto)]
 
-mod idle;
 mod replay;
 mod replayed;
 

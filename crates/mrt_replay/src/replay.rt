@@ -11,7 +11,6 @@ ghost use Rattle.mrt_replay.specs.Reports.{counting_of, lines_of, listed_by, lis
 ghost use Rattle.peer_units.specs.Choices.{choices_of};
 ghost use Rattle.report_request.specs.Requests.{request_of};
 
-use crate::idle::{idle_of_tables, idle_of_watches};
 use crate::replayed::replay;
 use adj_rib::RouteId;
 use bgp_prefix::{Family, PrefixMap};
@@ -25,8 +24,7 @@ use replay_summary::Summary;
 use report_request::{LayoutOf, Request};
 use rib_report::{
     Tables, WrittenAddress, churn, faults, list_tables, matches, origins, peers, seen, visibility,
-    watched_churn, write_churn, write_faults, write_history, write_origins, write_peers,
-    write_rows, write_seen, write_visibility,
+    watched_churn, write_lines,
 };
 use std::alloc::Global;
 use std::marker::Sync;
@@ -180,8 +178,8 @@ fn run_on_tables<
         rounds: replayed.rounds,
         peers: replayed.tables.peers(),
         routes: replayed.tables.routes(),
-        idle: idle_of_tables(&replayed.tables),
         remarks: replayed.remarks,
+        peer_remarks: replayed.peer_remarks,
     };
     // Tables aren't taken apart route by route, since the process ends after the run (docs/DECISIONS.md).
     mem::forget(replayed);
@@ -239,8 +237,8 @@ where
         rounds: 0,
         peers: watches.len(),
         routes: history.routes,
-        idle: idle_of_watches(watches),
         remarks: history.remarks,
+        peer_remarks: history.peer_remarks,
     };
     mem::forget(history);
     Ok(summary)
@@ -264,13 +262,13 @@ fn write_told<F: WrittenAddress, M: PrefixMap<RouteId, Addr = F> + Drop, W: Sink
     ensures risen { result ≡ Err errors.Write → HasFailed (W.failure_count out.old) (W.failure_count out.new) }
 {
     match listed {
-        Listed::Nothing => write_churn(
+        Listed::Nothing => write_lines(
             out,
-            layout,
+            &layout,
             watched_churn(alloc, told.watches.watched())?.as_slice(),
         ),
-        Listed::Changes => write_history(out, layout, &told.rows),
-        Listed::All => write_history(out, layout, &told.rows),
+        Listed::Changes => write_lines(out, &layout, &told.rows),
+        Listed::All => write_lines(out, &layout, &told.rows),
     }
 }
 
@@ -331,20 +329,24 @@ fn write_report<
         Request::Tables => list_tables(rt, alloc, workers, out, layout, tables),
         Request::Visibility => {
             let rows = visibility(rt, alloc, workers, tables)?;
-            write_visibility(out, layout, rows.as_slice())
+            write_lines(out, &layout, rows.as_slice())
         }
         Request::Origins => {
             let rows = origins(rt, alloc, workers, tables)?;
-            write_origins(out, layout, rows.as_slice())
+            write_lines(out, &layout, rows.as_slice())
         }
         Request::Seen => {
             let rows = seen(rt, alloc, workers, tables)?;
-            write_seen(out, layout, rows.as_slice())
+            write_lines(out, &layout, rows.as_slice())
         }
-        Request::Churn { since: _ } => write_churn(out, layout, churn(alloc, tables)?.as_slice()),
-        Request::Peers => write_peers(out, layout, peers(alloc, tables)?.as_slice()),
-        Request::Match(addr) => write_rows(out, layout, matches(alloc, tables, *addr)?.as_slice()),
-        Request::Faults => write_faults(out, layout, faults(alloc, tables)?.as_slice()),
+        Request::Churn { since: _ } => write_lines(out, &layout, churn(alloc, tables)?.as_slice()),
+        Request::Peers => write_lines(out, &layout, peers(alloc, tables)?.as_slice()),
+        Request::Match(addr) => write_lines(
+            out,
+            &layout,
+            matches(alloc, tables, *addr)?.as_slice(),
+        ),
+        Request::Faults => write_lines(out, &layout, faults(alloc, tables)?.as_slice()),
         Request::History { since: _, same: _ } => Ok(()),
     }
 }

@@ -15,6 +15,7 @@ use lane_deal::{Dealing, Gate, Plan, Replayer, Step};
 use mrt_body::{Remarks, Units};
 use mrt_frame::{ReplayError, Source};
 use peer_units::Selection;
+use replay_summary::{PeerRemarks, remarks_on};
 use rib_report::Tables;
 use std::alloc::Global;
 use std::marker::Sync;
@@ -29,6 +30,7 @@ pub struct Replayed<M: PrefixMap<RouteId>> {
     pub aside: u64,
     pub rounds: u64,
     pub remarks: Remarks,
+    pub peer_remarks: PeerRemarks,
 }
 
 fn is_end(step: Step) -> bool
@@ -128,6 +130,7 @@ where
     let Ok(mut tables) = replayer.into_tables(alloc) else {
         return Err(ReplayError::Memory);
     };
+    let peer_remarks = remarks_on(tables.seats(), units.selection().peers());
     let Ok(()) = tables.retain(rt, alloc, plan.workers, &chosen) else {
         return Err(ReplayError::Memory);
     };
@@ -138,5 +141,6 @@ where
         aside: units.aside(),
         rounds,
         remarks: units.remarks(),
+        peer_remarks,
     })
 }

@@ -11,7 +11,6 @@ use Rattle.peer_units.specs.declared.rib_rule.RibRule.{RibRule}
 use Rattle.peer_units.specs.declared.rib_rule.RibRule.TheVariants.{Add}
 use Rattle.std.proofs.lemmas.List.Elements.{filter-append}
 use Rattle.std.proofs.lemmas.List.{map-append}
-use Rattle.peer_units.specs.declared.state_rule.StateRule.{StateRule}
 use Rattle.peer_units.specs.declared.unit.PeerAddr.{PeerAddr}
 use Rattle.peer_units.specs.declared.unit.PeerAddr.TheVariants.{V4, V6}
 use Rattle.peer_units.specs.declared.unit.PeerKey.{PeerKey}
@@ -37,7 +36,7 @@ use Rattle.bgp_update.specs.Updates.{update_bytes}
 use Rattle.peer_units.specs.Events.{message_bytes, UPDATE}
 use Rattle.mrt_writing.specs.Records.{WrittenRecord, FitsRecord, written_size, cut_of, cuts_of_records, records_bytes}
 use Rattle.mrt_writing.specs.Kinds.{rib_subtype, message_subtype}
-use Rattle.mrt_writing.specs.Dumps.{DumpRecord, state, rib, update, has_identifier, index_record, record_of, dump_records, FitsDumpRecord, HasRibKinds, FitsDump, units_of_record, units_of_dump}
+use Rattle.mrt_writing.specs.Dumps.{DumpRecord, state, rib, update, has_identifier, index_record, record_of, dump_records, FitsDumpRecord, HasRibKinds, FitsDump, rules_for, units_of_record, units_of_dump}
 use Rattle.mrt_writing.proofs.BodyLaws.{rib_again, change_read, index_again, session_fits}
 use Rattle.mrt_writing.proofs.RecordLaws.{records-cut}
 
@@ -48,9 +47,9 @@ abbrev read_record : UnitSelection → List PeerKey → RecordAt → List PeerKe
 read_record selection known at peers r = units_in selection known at (is_extended r.kind) (Some peers) (body_kind_of selection.rules.family r.kind r.subtype) r.body
 
 message_again : (rules : Rules) (at : RecordAt) (add_path : Bool) (p : PeerKey) (message : List ℕ) → FitsPeerKey p
-    → message_unit rules at false Four add_path (message_body p message) ≡ Ok (session_unit at 0 p (Message message Four add_path rules))
+    → message_unit rules at false Four add_path (message_body p message) ≡ Ok (session_unit at 0 p (Message message Four add_path (rules_for p rules)))
 message_again rules at add_path p message h =
-    message_body-again rules at false Four add_path (message_body p message) (session_unit at 0 p (Message message Four add_path rules)) (record {
+    message_body-again rules at false Four add_path (message_body p message) (session_unit at 0 p (Message message Four add_path (rules_for p rules))) (record {
       microseconds = 0;
       session = written_session p;
       message = message;
@@ -61,7 +60,7 @@ message_again rules at add_path p message h =
     })
 
 message_read : (selection : UnitSelection) (known : List PeerKey) (at : RecordAt) (peers : List PeerKey) (b : Bool) (p : PeerKey) (message : List ℕ) → FitsPeerKey p
-    → units_in selection known at false (Some peers) (body_kind_of selection.rules.family 16 (message_subtype b)) (message_body p message) ≡ Ok (session_unit at 0 p (Message message Four b selection.rules) ∷ [])
+    → units_in selection known at false (Some peers) (body_kind_of selection.rules.family 16 (message_subtype b)) (message_body p message) ≡ Ok (session_unit at 0 p (Message message Four b (rules_for p selection.rules)) ∷ [])
 unfolding body_kind_of
 message_read selection known at peers true p message h = rw (message_again selection.rules at true p message h) refl
 message_read selection known at peers false p message h = rw (message_again selection.rules at false p message h) refl

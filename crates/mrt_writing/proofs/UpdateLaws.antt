@@ -16,6 +16,7 @@ use Rattle.bgp_update.specs.Hops.{by_hop}
 use Rattle.bgp_update.specs.Attributes.{WrittenAttribute, AreAttributes, IsFormed, HoldsReach, attributes_bytes, value_of, route_of}
 use Rattle.bgp_update.specs.Keys.{IsWrittenKey, identifier_len, key_of}
 use Rattle.bgp_update.specs.Multiprotocol.{FitsHop, SpellsReach, SaysReached, SaysUnreached}
+use Rattle.bgp_update.specs.Handling.{taken_update}
 use Rattle.bgp_update.specs.Updates.{update_bytes, SaysOwn, ReadsAsUpdate}
 use Rattle.bgp_update.proofs.FromFirstValues.{route_from_same}
 use Rattle.peer_units.specs.declared.meaning.Event.TheVariants as event
@@ -116,7 +117,7 @@ module _ (rules : Rules) (add_path : Bool) (key : RouteKey) (r : Route) (h : Fit
     };
   }
 
-  pub update_again : event_in (Message (update_message rules.family add_path key r) Four add_path rules) ≡ Ok (event.Change (reaching key r))
+  pub update_again : event_in (Message (update_message rules.family add_path key r) Four add_path rules) ≡ Ok (event.Change (taken_update rules.errors (reaching key r)))
   update_again =
-      event_again (Message (update_message family add_path key r) Four add_path rules) (event.Change (reaching key r))
-      (update_bytes (written_update family add_path key r), refl, h.short, update_reads)
+      event_again (Message (update_message family add_path key r) Four add_path rules) (event.Change (taken_update rules.errors (reaching key r)))
+      (update_bytes (written_update family add_path key r), refl, h.short, reaching key r, update_reads, refl)

@@ -6,7 +6,7 @@ use Rattle.bgp_prefix.specs.Keys.{RouteKey}
 use Rattle.mrt_frame.specs.Cuts.{body_limit}
 use Rattle.bgp_update.specs.declared.route.Route.{Route}
 use Rattle.bgp_update.specs.declared.width.Width.TheVariants.{Four}
-use Rattle.bgp_update.specs.Families.{FamilyOf, RouteRules, Rules, by_entry_width}
+use Rattle.bgp_update.specs.Families.{FamilyOf, RouteRules, Rules, by_entry_width, of_peer}
 use Rattle.peer_units.specs.declared.state_rule.StateRule.{StateRule}
 use Rattle.peer_units.specs.declared.unit.PeerKey.{PeerKey}
 use Rattle.peer_units.specs.declared.unit.Payload.TheVariants as payload
@@ -14,10 +14,11 @@ use Rattle.peer_units.specs.States.{ESTABLISHED}
 use Rattle.peer_units.specs.Plain.{Unit as ReplayUnit}
 use Rattle.mrt_body.specs.declared.record_place.RecordAt.{RecordAt}
 use Rattle.mrt_body.specs.declared.body_kind.BodyKind.TheVariants as content
+use Rattle.mrt_body.specs.Bgp4mp.{is_external}
 use Rattle.mrt_body.specs.Indexes.{index_bytes}
 use Rattle.mrt_body.specs.RibRecords.{rib_bytes}
 use Rattle.mrt_body.specs.Units.{session_unit, body_kind_of, at_record}
-use Rattle.mrt_writing.specs.Heads.{written_index, states_bytes, FitsPeerKey}
+use Rattle.mrt_writing.specs.Heads.{written_index, written_session, states_bytes, FitsPeerKey}
 use Rattle.mrt_writing.specs.RibRecords.{PrefixRoute, written_rib, FitsPrefixRecord, units_of_entries}
 use Rattle.mrt_writing.specs.Updates.{update_message, message_body, FitsUpdate}
 use Rattle.mrt_writing.specs.declared.record_kind.RecordKind.{RecordKind}
@@ -84,13 +85,18 @@ pub record FitsDump (rules : RouteRules) (seconds : ℕ) (peers : List PeerKey) 
 
 -- ---- the units
 
+-- the rules for a peer's messages in a dump, where its local end has AS 0
+abbrev pub rules_for : PeerKey → Rules → Rules
+rules_for p rules = of_peer (is_external (written_session p)) rules
+
 abbrev pub units_of_record : Rules → StateRule → RecordAt → List PeerKey → DumpRecord → List ReplayUnit
 units_of_record rules rule at peers (state p to) = session_unit at 0 p (payload.State ESTABLISHED to rule) ∷ []
 units_of_record rules rule at peers (rib sequence add_path prefix entries) =
     units_of_entries (by_entry_width Four rules) at peers prefix 1 entries
 units_of_record rules rule at peers (update p key r) =
     session_unit at 0 p
-    (payload.Message (update_message rules.family (has_identifier key) key r) Four (has_identifier key) rules)
+    (payload.Message (update_message rules.family (has_identifier key) key r) Four (has_identifier key)
+    (rules_for p rules))
     ∷ []
 
 -- of records behind the index table, the first of which stands at this offset

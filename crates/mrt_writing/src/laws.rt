@@ -7,6 +7,7 @@ ghost use Rattle.bgp_prefix.specs.Prefixes.{IpPrefix, IsIpPrefix};
 ghost use Rattle.mrt_frame.specs.Cuts.{cuts, file_limit};
 ghost use Rattle.bgp_update.specs.Attributes.{route_in, attributes_bytes};
 ghost use Rattle.bgp_update.specs.Families.{FamilyOf, RouteRules, Rules, by_entry_width, ipv4, ipv6, route_rules};
+ghost use Rattle.bgp_update.specs.Handling.{taken_update};
 ghost use Rattle.bgp_update.specs.Keys.{prefix_of};
 ghost use Rattle.bgp_update.specs.Updates.{update_bytes};
 ghost use Rattle.bgp_update.specs.declared.route.Route.{Route};
@@ -76,11 +77,12 @@ pub fn written_bodies_are_read()
         event_in (Entry (by_entry_width Four rules) key (entry_field rules.family route)) ≡ Ok (event.Rib key route) }
 {}
 
-/// A key that an UPDATE of its own reaches is read with its route and next hop.
+/// A key that an UPDATE of its own reaches is read with its route and next hop. Where damage is skipped the UPDATE is
+/// taken so, and else as any other that is undamaged.
 pub fn written_updates_are_read()
     ensures { (rules : Rules) (add_path : Bool) (key : RouteKey) (route : Route) → FitsUpdate (route_rules rules) add_path key route →
         event_in (Message (update_message rules.family add_path key route) Four add_path rules)
-        ≡ Ok (event.Change (reaching key route)) }
+        ≡ Ok (event.Change (taken_update rules.errors (reaching key route))) }
 {}
 
 /// What is written one part after the other is the whole: a record's head and its body, a RIB record's head and its

@@ -19,6 +19,7 @@ event_at-grown keys more_keys bytes more_bytes (decoded.Damaged fault) k b h = r
 event_at-grown keys more_keys bytes more_bytes (decoded.State rule from to) k b h = refl
 event_at-grown keys more_keys bytes more_bytes (decoded.Rib key route) k b h = ap (λ (r : Route). Ok (events.Rib key r)) (route_at-grown bytes more_bytes route b h)
 event_at-grown keys more_keys bytes more_bytes (decoded.Change spans) k b h = ap (λ (u : Update). Ok (events.Change u)) (update_at-grown keys more_keys bytes more_bytes spans k b h)
+event_at-grown keys more_keys bytes more_bytes (decoded.Handled fault spans) k b h = ap (λ (u : Update). Ok (events.Handled fault u)) (update_at-grown keys more_keys bytes more_bytes spans k b h)
 
 IsEventAt-grown : (keys more_keys : List RouteKey) (bytes more_bytes : List ℕ) (e : DecodedEvent) → IsGrown keys more_keys → IsGrown bytes more_bytes → IsEventAt keys bytes e → IsEventAt more_keys more_bytes e
 IsEventAt-grown keys more_keys bytes more_bytes decoded.Other k b h = tt
@@ -27,6 +28,7 @@ IsEventAt-grown keys more_keys bytes more_bytes (decoded.Damaged fault) k b h = 
 IsEventAt-grown keys more_keys bytes more_bytes (decoded.State rule from to) k b h = tt
 IsEventAt-grown keys more_keys bytes more_bytes (decoded.Rib key route) k b h = IsRouteAt-grown bytes more_bytes route b h
 IsEventAt-grown keys more_keys bytes more_bytes (decoded.Change spans) k b h = IsUpdateAt-grown keys more_keys bytes more_bytes spans k b h
+IsEventAt-grown keys more_keys bytes more_bytes (decoded.Handled fault spans) k b h = IsUpdateAt-grown keys more_keys bytes more_bytes spans k b h
 
 pub events_at-grown : (keys more_keys : List RouteKey) (bytes more_bytes : List ℕ) (es : List DecodedEvent) → IsGrown keys more_keys → IsGrown bytes more_bytes → AreEventsAt keys bytes es → events_at more_keys more_bytes es ≡ events_at keys bytes es
 events_at-grown keys more_keys bytes more_bytes [] k b h = refl

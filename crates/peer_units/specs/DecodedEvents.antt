@@ -19,6 +19,7 @@ event_at keys bytes (decoded.Damaged fault) = Err fault
 event_at keys bytes (decoded.State rule from to) = Ok (events.State from to rule)
 event_at keys bytes (decoded.Rib key route) = Ok (events.Rib key (route_at bytes route))
 event_at keys bytes (decoded.Change spans) = Ok (events.Change (update_at keys bytes spans))
+event_at keys bytes (decoded.Handled fault spans) = Ok (events.Handled fault (update_at keys bytes spans))
 
 -- its keys and its routes are there
 abbrev pub IsEventAt : List RouteKey → List ℕ → DecodedEvent → Type 0
@@ -28,6 +29,7 @@ IsEventAt keys bytes (decoded.Damaged fault) = ⊤
 IsEventAt keys bytes (decoded.State rule from to) = ⊤
 IsEventAt keys bytes (decoded.Rib key route) = IsRouteAt bytes route
 IsEventAt keys bytes (decoded.Change spans) = IsUpdateAt keys bytes spans
+IsEventAt keys bytes (decoded.Handled fault spans) = IsUpdateAt keys bytes spans
 
 abbrev pub events_at : List RouteKey → List ℕ → List DecodedEvent → List (Result Event Fault)
 events_at keys bytes es = map (event_at keys bytes) es
@@ -47,6 +49,7 @@ event_of (refs.Change update) = Ok (events.Change (plain_update update))
 event_of (refs.Rib key hashed) = Ok (events.Rib key hashed.route)
 event_of refs.Other = Ok events.Other
 event_of refs.Clear = Ok events.Clear
+event_of (refs.Handled fault update) = Ok (events.Handled fault (plain_update update))
 event_of (refs.Damaged fault) = Err fault
 
 -- what a record has of the peer, and not that a RIB dump clears its table
@@ -56,6 +59,7 @@ is_recorded_event (Ok (events.Change update)) = true
 is_recorded_event (Ok (events.Rib key route)) = true
 is_recorded_event (Ok events.Other) = true
 is_recorded_event (Ok events.Clear) = false
+is_recorded_event (Ok (events.Handled fault update)) = true
 is_recorded_event (Err fault) = true
 
 -- it stands at this place, has this time and means this

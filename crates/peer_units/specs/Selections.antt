@@ -49,6 +49,7 @@ speaks_of choices (Ok (event.State old new rule)) = true
 speaks_of choices (Ok (event.Rib key route)) = true
 speaks_of choices (Ok event.Other) = false
 speaks_of choices (Ok event.Clear) = true
+speaks_of choices (Ok (event.Handled fault update)) = true
 speaks_of choices (Err fault) = true
 
 -- Whether a payload can concern a chosen prefix. A state change or a clear concerns all of them, a RIB entry that of

@@ -1,7 +1,7 @@
 -- What state changes say of a session (RFC 4271, 8.2.2; RFC 6396, 4.4.1), by the rule that is asked for.
 use Rattle.std.specs.Prelude.{⊤, ◌≡◌, ℕ, Bool, true, not, ◌&&◌, List, Option, Some, None, ◌==◌, if◌then◌else◌}
 use Rattle.std.specs.List.{All}
-use Rattle.bgp_update.specs.Families.{Rules, by_entry_width}
+use Rattle.bgp_update.specs.Families.{Rules, by_entry_width, of_peer}
 use Rattle.bgp_update.specs.declared.width.Width.{Width}
 use Rattle.peer_units.specs.declared.state_rule.StateRule.{StateRule}
 use Rattle.peer_units.specs.declared.state_rule.StateRule.TheVariants.{Recorded, Established}
@@ -45,10 +45,11 @@ IsByRule rule Clear = ⊤
 abbrev pub AreByRule : StateRule → List ReplayUnit → Type 0
 AreByRule rule units = All (λ unit. IsByRule rule unit.payload) units
 
--- a payload that is read by these rules, if it is a message, or an entry with AS numbers of some width
+-- a payload that is read by these rules, if it is a message, as they are for an external or internal peer, or an entry
+-- with AS numbers of some width
 abbrev pub IsReadBy : Rules → Payload → Type 0
 IsReadBy rules (State from to rule) = ⊤
-IsReadBy rules (Message bytes width add_path others) = others ≡ rules
+IsReadBy rules (Message bytes width add_path others) = (external : Bool) × (others ≡ of_peer external rules)
 IsReadBy rules (Entry others key attrs) = (width : Width) × (others ≡ by_entry_width width rules)
 IsReadBy rules Clear = ⊤
 

@@ -60,7 +60,7 @@ fn addr_eq(named: &PeerAddr, addr: &PeerAddr) -> bool
 
 impl PeerChoice {
     /// Whether this peer is chosen.
-    pub(crate) fn takes(&self, peer: &PeerKey) -> bool
+    pub fn takes(&self, peer: &PeerKey) -> bool
         ensures { result ≡ names_peer self.now peer.now }
     {
         if self.asn != peer.asn {

@@ -7,7 +7,9 @@ ghost use Rattle.peer_units.specs.DecodedEvents.{IsEventAt, IsOneMore, event_at}
 ghost use Rattle.bgp_update.specs.Families.{route_rules};
 ghost use Rattle.bgp_update.specs.Values.{plain_rules};
 ghost use Rattle.bgp_update.specs.declared.width.Width.TheVariants.{Four};
-ghost use Rattle.peer_units.specs.Events.{entry_event_in, event_in, message_event_in};
+ghost use Rattle.bgp_update.specs.Handling.{handled_entry, handled_update};
+ghost use Rattle.bgp_update.specs.declared.error_rule.ErrorRule.TheVariants.{Skip};
+ghost use Rattle.peer_units.specs.Events.{damaged_event, entry_event_in, event_in, message_event_in};
 
 use crate::event_ref::EventRef;
 use crate::interpret::UPDATE;
@@ -18,7 +20,8 @@ use crate::unit_ref::PayloadRef;
 use bgp_prefix::{Memory, Prefix, RouteKey};
 use bgp_update::{
     AttrError, RouteSpan, Rules, Unicast, UpdateSpans, Width, decode_asked_entry,
-    decode_asked_update, decode_entry, decode_update,
+    decode_asked_update, decode_entry, decode_handled_entry, decode_handled_update, decode_update,
+    taken_update,
 };
 use mrt_frame::Fault;
 use std::alloc::Global;
@@ -33,6 +36,7 @@ pub(crate) enum DecodedEvent<P = Prefix> {
     State { rule: StateRule, from: u16, to: u16 },
     Rib { key: RouteKey<P>, route: RouteSpan },
     Change(UpdateSpans),
+    Handled { fault: Fault, spans: UpdateSpans },
 }
 
 /// Decodes a message of which no attribute is asked for. Its keys and the packed bytes of its routes are appended to
@@ -47,7 +51,7 @@ fn decode_message<F: Unicast>(
     add_path: bool,
 ) -> Result<DecodedEvent<Prefix<F>>, Memory>
     ensures means { IfOk result (λ event. event_at keys.new.items bytes.new.items event
-        ≡ message_event_in (plain_rules F.family) width add_path message.now) }
+        ≡ message_event_in Skip (plain_rules F.family) width add_path message.now) }
     ensures there { IfOk result (IsEventAt keys.new.items bytes.new.items) }
     ensures keys { OnOk result (IsGrown keys.old.items keys.new.items) }
     ensures bytes { OnOk result (IsGrown bytes.old.items bytes.new.items) }
@@ -66,7 +70,32 @@ fn decode_message<F: Unicast>(
     }
 }
 
-/// The same of a message of which attributes are asked for.
+/// Decodes what is done about a damaged UPDATE of which this is the first fault, as `decode_message` does.
+fn decode_damaged_update<F: Unicast>(
+    alloc: Global,
+    keys: &mut Vec<RouteKey<Prefix<F>>>,
+    bytes: &mut Vec<u8>,
+    kept: &mut Vec<u8>,
+    rules: Rules<F>,
+    body: &[u8],
+    width: Width,
+    add_path: bool,
+    fault: Fault,
+) -> Result<DecodedEvent<Prefix<F>>, Memory>
+    ensures means { IfOk result (λ event. event_at keys.new.items bytes.new.items event
+        ≡ damaged_event fault (handled_update rules.errors (route_rules rules) width add_path body.now)) }
+    ensures there { IfOk result (IsEventAt keys.new.items bytes.new.items) }
+    ensures keys { OnOk result (IsGrown keys.old.items keys.new.items) }
+    ensures bytes { OnOk result (IsGrown bytes.old.items bytes.new.items) }
+{
+    match decode_handled_update(alloc, keys, bytes, kept, body, rules, width, add_path) {
+        Ok(spans) => Ok(DecodedEvent::Handled { fault, spans }),
+        Err(AttrError::Bad(_)) => Ok(DecodedEvent::Damaged(fault)),
+        Err(AttrError::Memory) => Err(Memory),
+    }
+}
+
+/// The same as `decode_message`, of a message of which attributes are asked for, or whose damage is handled.
 #[tactic(auto, unfolding(crate::specs::Events::message_event_in))]
 fn decode_asked_message<F: Unicast>(
     alloc: Global,
@@ -79,7 +108,7 @@ fn decode_asked_message<F: Unicast>(
     add_path: bool,
 ) -> Result<DecodedEvent<Prefix<F>>, Memory>
     ensures means { IfOk result (λ event. event_at keys.new.items bytes.new.items event
-        ≡ message_event_in (route_rules rules) width add_path message.now) }
+        ≡ message_event_in rules.errors (route_rules rules) width add_path message.now) }
     ensures there { IfOk result (IsEventAt keys.new.items bytes.new.items) }
     ensures keys { OnOk result (IsGrown keys.old.items keys.new.items) }
     ensures bytes { OnOk result (IsGrown bytes.old.items bytes.new.items) }
@@ -101,8 +130,13 @@ fn decode_asked_message<F: Unicast>(
         width,
         add_path,
     ) {
-        Ok(spans) => Ok(DecodedEvent::Change(spans)),
-        Err(AttrError::Bad(fault)) => Ok(DecodedEvent::Damaged(fault)),
+        Ok(spans) => match taken_update(keys, bytes.as_slice(), rules.errors(), spans) {
+            Ok(taken) => Ok(DecodedEvent::Change(taken)),
+            Err(memory) => Err(memory),
+        },
+        Err(AttrError::Bad(fault)) => decode_damaged_update(
+            alloc, keys, bytes, kept, rules, body, width, add_path, fault,
+        ),
         Err(AttrError::Memory) => Err(Memory),
     }
 }
@@ -132,7 +166,7 @@ fn keep_entry<F: Unicast>(
     attrs: &[u8],
 ) -> Result<(), Memory>
     ensures kept { OnOk result ((keys : List Key) → IsOneMore keys bytes.old.items events.old.items
-        keys bytes.new.items events.new.items (entry_event_in (plain_rules F.family) Four key attrs.now)) }
+        keys bytes.new.items events.new.items (entry_event_in Skip (plain_rules F.family) Four key attrs.now)) }
     ensures none { OnErr result (events.new.items ≡ []) }
 {
     match decode_entry::<F>(alloc, bytes, attrs, Width::Four) {
@@ -145,23 +179,58 @@ fn keep_entry<F: Unicast>(
     }
 }
 
-/// The same of an entry of which attributes are asked for.
+/// Decodes what is done about the damaged attributes of a RIB entry of which this is the first fault.
+fn decode_damaged_entry<F: Unicast>(
+    alloc: Global,
+    keys: &mut Vec<RouteKey<Prefix<F>>>,
+    bytes: &mut Vec<u8>,
+    kept: &mut Vec<u8>,
+    rules: Rules<F>,
+    key: RouteKey<Prefix<F>>,
+    attrs: &[u8],
+    fault: Fault,
+) -> Result<DecodedEvent<Prefix<F>>, Memory>
+    ensures means { IfOk result (λ event. event_at keys.new.items bytes.new.items event
+        ≡ damaged_event fault (handled_entry rules.errors (route_rules rules) rules.entry_width key attrs.now)) }
+    ensures there { IfOk result (IsEventAt keys.new.items bytes.new.items) }
+    ensures keys { OnOk result (IsGrown keys.old.items keys.new.items) }
+    ensures bytes { OnOk result (IsGrown bytes.old.items bytes.new.items) }
+{
+    let width = rules.entry_width();
+    match decode_handled_entry(alloc, keys, bytes, kept, key, attrs, rules, width) {
+        Ok(spans) => Ok(DecodedEvent::Handled { fault, spans }),
+        Err(AttrError::Bad(_)) => Ok(DecodedEvent::Damaged(fault)),
+        Err(AttrError::Memory) => Err(Memory),
+    }
+}
+
+/// The same as `keep_entry`, of an entry of which attributes are asked for, or whose damage is handled.
 fn keep_asked_entry<F: Unicast>(
     alloc: Global,
     events: &mut Vec<DecodedEvent<Prefix<F>>>,
+    keys: &mut Vec<RouteKey<Prefix<F>>>,
     bytes: &mut Vec<u8>,
     kept: &mut Vec<u8>,
     rules: Rules<F>,
     key: RouteKey<Prefix<F>>,
     attrs: &[u8],
 ) -> Result<(), Memory>
-    ensures kept { OnOk result ((keys : List Key) → IsOneMore keys bytes.old.items events.old.items
-        keys bytes.new.items events.new.items (entry_event_in (route_rules rules) rules.entry_width key attrs.now)) }
+    ensures kept { OnOk result (IsOneMore keys.old.items bytes.old.items events.old.items
+        keys.new.items bytes.new.items events.new.items
+        (entry_event_in rules.errors (route_rules rules) rules.entry_width key attrs.now)) }
     ensures none { OnErr result (events.new.items ≡ []) }
 {
     match decode_asked_entry::<F>(alloc, bytes, kept, attrs, rules.kept(), rules.entry_width()) {
         Ok(route) => keep(events, DecodedEvent::Rib { key, route }),
-        Err(AttrError::Bad(fault)) => keep(events, DecodedEvent::Damaged(fault)),
+        Err(AttrError::Bad(fault)) => {
+            match decode_damaged_entry(alloc, keys, bytes, kept, rules, key, attrs, fault) {
+                Ok(event) => keep(events, event),
+                Err(memory) => {
+                    events.clear();
+                    Err(memory)
+                }
+            }
+        }
         Err(AttrError::Memory) => {
             events.clear();
             Err(Memory)
@@ -169,8 +238,8 @@ fn keep_asked_entry<F: Unicast>(
     }
 }
 
-/// The same as `keep_decoded`, where attributes may be asked for. It is told to be seldom called, so that the code
-/// where none is asked for is laid out and inlined as if nobody asked.
+/// The same as `keep_decoded`, where attributes may be asked for and damage handled. It is told to be seldom called, so
+/// that the code where neither is asked for is laid out and inlined as if nobody asked.
 #[cold]
 #[tactic(auto, unfolding(crate::specs::Events::event_in))]
 fn keep_asked<F: Unicast>(
@@ -208,7 +277,8 @@ fn keep_asked<F: Unicast>(
             }
         }
         Payload::Entry { rules, key, attrs } => {
-            keep_asked_entry(alloc, events, bytes, kept, *rules, *key, attrs.as_slice())
+            let attrs = attrs.as_slice();
+            keep_asked_entry(alloc, events, keys, bytes, kept, *rules, *key, attrs)
         }
         Payload::Clear => keep(events, DecodedEvent::Clear),
     }
@@ -353,6 +423,10 @@ impl<F: Unicast> DecodedEvents<F> {
             DecodedEvent::Change(spans) => {
                 EventRef::Change(spans.update(self.keys.as_slice(), self.bytes.as_slice()))
             }
+            DecodedEvent::Handled { fault, spans } => EventRef::Handled(
+                fault,
+                spans.update(self.keys.as_slice(), self.bytes.as_slice()),
+            ),
         }
     }
 
@@ -363,6 +437,7 @@ impl<F: Unicast> DecodedEvents<F> {
         match self.events.get(at) {
             Some(DecodedEvent::Rib { key: _, route }) => Some(*route),
             Some(DecodedEvent::Change(spans)) => spans.first_route(),
+            Some(DecodedEvent::Handled { fault: _, spans }) => spans.first_route(),
             _ => None,
         }
     }

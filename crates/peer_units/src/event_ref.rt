@@ -5,8 +5,8 @@ use bgp_prefix::{Prefix, RouteKey};
 use bgp_update::{HashedRoute, Unicast, UpdateRef};
 use mrt_frame::Fault;
 
-/// What a payload means, as `Event` has it, or its first fault. A fault means that the unit is damaged and changes no
-/// route.
+/// What a payload means, as `Event` has it, or its first fault. A fault alone means that the unit is damaged and
+/// changes no route.
 #[derive(Drop)]
 pub enum EventRef<'a, P = Prefix> {
     /// A state change: the old and the new state, and the rule by which it is taken.
@@ -19,6 +19,8 @@ pub enum EventRef<'a, P = Prefix> {
     Other,
     /// A RIB dump begins that clears the peer's table.
     Clear,
+    /// A damaged message or entry: its fault, and the update that is done about it (RFC 7606).
+    Handled(Fault, UpdateRef<'a, P>),
     /// The payload is damaged.
     Damaged(Fault),
 }

@@ -3,35 +3,75 @@
 ghost use Rattle.std.specs.Prelude.{◌≡◌, IfOk, Ok};
 ghost use Rattle.bgp_prefix.specs.Prefixes.{IpPrefix};
 ghost use Rattle.bgp_update.specs.Families.{route_rules};
+ghost use Rattle.bgp_update.specs.Handling.{handled_update};
 ghost use Rattle.bgp_update.specs.Results.{Gives};
-ghost use Rattle.peer_units.specs.Events.{IsEvent, IsMessageEvent, IsWritableEvent, event_in, message_event_in};
+ghost use Rattle.bgp_update.specs.Updates.{update_in};
+ghost use Rattle.peer_units.specs.Events.{
+  IsEntryEvent,
+  IsEvent,
+  IsMessageEvent,
+  IsWritableEvent,
+  entry_event_in,
+  event_in,
+  message_event_in,
+  update_event,
+};
 
 use crate::meaning::Event;
 use crate::message::message_in;
 use crate::unit::{Payload, PayloadOf};
 use crate::unit_ref::PayloadRef;
-use bgp_prefix::Prefix;
-use bgp_update::{AttrError, Rules, Unicast, Width, read_attrs, read_update};
+use bgp_prefix::{Prefix, RouteKey};
+use bgp_update::{
+    AttrError, Rules, Unicast, Width, read_attrs, read_handled_entry, read_handled_update,
+    read_update,
+};
 use std::alloc::Global;
 
 /// The type of an UPDATE message.
 pub(crate) const UPDATE: u8 = 2;
 
-/// Returns the event of a message.
+/// Returns the event of an UPDATE.
+fn update_event<F: Unicast>(
+    alloc: Global,
+    rules: Rules<F>,
+    body: &[u8],
+    width: Width,
+    add_path: bool,
+) -> Result<Event<Prefix<F>>, AttrError>
+    ensures exact { Gives (λ e. e) result (update_event rules.errors
+        (update_in (route_rules rules) width add_path body.now)
+        (handled_update rules.errors (route_rules rules) width add_path body.now)) }
+    ensures writable { IfOk result IsWritableEvent }
+{
+    let fault = match read_update::<F>(alloc, body, rules.kept(), width, add_path) {
+        Ok(update) => match update.taken_by(alloc, rules.errors()) {
+            Ok(taken) => return Ok(Event::Change(taken)),
+            Err(_) => return Err(AttrError::Memory),
+        },
+        Err(AttrError::Bad(fault)) => fault,
+        Err(AttrError::Memory) => return Err(AttrError::Memory),
+    };
+    match read_handled_update(alloc, body, rules, width, add_path) {
+        Ok(update) => Ok(Event::Handled(fault, update)),
+        Err(AttrError::Bad(_)) => Err(AttrError::Bad(fault)),
+        Err(AttrError::Memory) => Err(AttrError::Memory),
+    }
+}
+
+/// Reads a message.
 #[tactic(auto, unfolding(crate::specs::Events::message_event_in))]
-fn message_event<F: Unicast>(
+fn read_message<F: Unicast>(
     alloc: Global,
     rules: Rules<F>,
     bytes: &[u8],
     width: Width,
     add_path: bool,
 ) -> Result<Event<Prefix<F>>, AttrError>
-    ensures found { IfOk result (IsMessageEvent (route_rules rules) width add_path bytes.now) }
-    ensures only { (e : Event IpPrefix) → IsMessageEvent (route_rules rules) width add_path bytes.now e → Gives (λ e. e) result (Ok e) }
-    ensures exact { Gives (λ e. e) result (message_event_in (route_rules rules) width add_path bytes.now) }
+    ensures exact { Gives (λ e. e) result
+        (message_event_in rules.errors (route_rules rules) width add_path bytes.now) }
     ensures writable { IfOk result IsWritableEvent }
 {
-    let kept = rules.kept();
     let (kind, body) = match message_in(bytes) {
         Ok(message) => message,
         Err(fault) => return Err(AttrError::Bad(fault)),
@@ -39,14 +79,70 @@ fn message_event<F: Unicast>(
     if kind != UPDATE {
         return Ok(Event::Other);
     }
-    match read_update(alloc, body, kept, width, add_path) {
-        Ok(update) => Ok(Event::Change(update)),
-        Err(error) => Err(error),
+    update_event(alloc, rules, body, width, add_path)
+}
+
+/// Returns the event of a message.
+fn message_event<F: Unicast>(
+    alloc: Global,
+    rules: Rules<F>,
+    bytes: &[u8],
+    width: Width,
+    add_path: bool,
+) -> Result<Event<Prefix<F>>, AttrError>
+    ensures found { IfOk result (IsMessageEvent rules.errors (route_rules rules) width add_path bytes.now) }
+    ensures only { (e : Event IpPrefix) → IsMessageEvent rules.errors (route_rules rules) width add_path bytes.now e →
+        Gives (λ e. e) result (Ok e) }
+    ensures exact { Gives (λ e. e) result
+        (message_event_in rules.errors (route_rules rules) width add_path bytes.now) }
+    ensures writable { IfOk result IsWritableEvent }
+{
+    read_message(alloc, rules, bytes, width, add_path)
+}
+
+/// Reads a RIB entry.
+fn read_entry<F: Unicast>(
+    alloc: Global,
+    rules: Rules<F>,
+    key: RouteKey<Prefix<F>>,
+    attrs: &[u8],
+) -> Result<Event<Prefix<F>>, AttrError>
+    ensures exact { Gives (λ e. e) result
+        (entry_event_in rules.errors (route_rules rules) rules.entry_width key attrs.now) }
+    ensures writable { IfOk result IsWritableEvent }
+{
+    let width = rules.entry_width();
+    let fault = match read_attrs::<F>(alloc, attrs, rules.kept(), width) {
+        Ok(route) => return Ok(Event::Rib(key, route)),
+        Err(AttrError::Bad(fault)) => fault,
+        Err(AttrError::Memory) => return Err(AttrError::Memory),
+    };
+    match read_handled_entry(alloc, key, attrs, rules, width) {
+        Ok(update) => Ok(Event::Handled(fault, update)),
+        Err(AttrError::Bad(_)) => Err(AttrError::Bad(fault)),
+        Err(AttrError::Memory) => Err(AttrError::Memory),
     }
 }
 
-/// Returns the one event of a payload, or its first fault in the order of checks. A fault means that the
-/// unit is damaged and changes no route.
+/// Returns the event of a RIB entry.
+fn entry_event<F: Unicast>(
+    alloc: Global,
+    rules: Rules<F>,
+    key: RouteKey<Prefix<F>>,
+    attrs: &[u8],
+) -> Result<Event<Prefix<F>>, AttrError>
+    ensures found { IfOk result (IsEntryEvent rules.errors (route_rules rules) rules.entry_width key attrs.now) }
+    ensures only { (e : Event IpPrefix) → IsEntryEvent rules.errors (route_rules rules) rules.entry_width key attrs.now e →
+        Gives (λ e. e) result (Ok e) }
+    ensures exact { Gives (λ e. e) result
+        (entry_event_in rules.errors (route_rules rules) rules.entry_width key attrs.now) }
+    ensures writable { IfOk result IsWritableEvent }
+{
+    read_entry(alloc, rules, key, attrs)
+}
+
+/// Returns the one event of a payload, or its first fault in the order of checks. A fault means that the unit is
+/// damaged and changes no route, since the rule on damage does nothing about it.
 pub fn event<F: Unicast>(
     alloc: Global,
     payload: &PayloadOf<F>,
@@ -81,12 +177,7 @@ fn whole_event<F: Unicast>(
             add_path,
             rules,
         } => message_event(alloc, *rules, bytes.as_slice(), *width, *add_path),
-        Payload::Entry { key, attrs, rules } => {
-            match read_attrs::<F>(alloc, attrs.as_slice(), rules.kept(), rules.entry_width()) {
-                Ok(route) => Ok(Event::Rib(*key, route)),
-                Err(error) => Err(error),
-            }
-        }
+        Payload::Entry { key, attrs, rules } => entry_event(alloc, *rules, *key, attrs.as_slice()),
         Payload::Clear => Ok(Event::Clear),
     }
 }

@@ -2,7 +2,8 @@
 //! clears the peer's table. What they mean, and which of them are selected.
 //!
 //! `event` says what a unit's payload means. A unit whose message or attributes are malformed is still a unit, whose
-//! event is a fault. Where units come from is told in `mrt_body`; what a peer's table is after them, in `adj_rib`.
+//! event is a fault, or the fault with what the rule on damage does about it (RFC 7606). Where units come from is told
+//! in `mrt_body`; what a peer's table is after them, in `adj_rib`.
 //!
 //! - **A selection is of units** (`Selection`, `is_selected`), and not of records, routes or rows. Since an UPDATE may
 //!   concern a chosen prefix and others, the routes of others are taken out of the tables at the end

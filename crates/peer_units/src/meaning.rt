@@ -3,6 +3,7 @@
 use crate::state_rule::StateRule;
 use bgp_prefix::{Prefix, RouteKey};
 use bgp_update::{Route, Update};
+use mrt_frame::Fault;
 
 /// What a payload means.
 #[derive(Drop)]
@@ -17,4 +18,6 @@ pub enum Event<P = Prefix> {
     Other,
     /// A RIB dump begins that clears the peer's table.
     Clear,
+    /// A damaged message or entry: its fault, and the update that is done about it (RFC 7606).
+    Handled(Fault, Update<P>),
 }

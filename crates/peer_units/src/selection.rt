@@ -1,7 +1,7 @@
 //! Which of the units of files are returned.
 
 ghost use Rattle.std.specs.Prelude.{◌≡◌, IfOk, true};
-ghost use Rattle.bgp_update.specs.Families.{rules_of};
+ghost use Rattle.bgp_update.specs.Families.{by_errors, rules_of};
 ghost use Rattle.bgp_update.specs.KeptAttributes.{no_attributes};
 ghost use Rattle.peer_units.specs.Choices.{all_of, choices_of, is_in_share, is_open};
 ghost use Rattle.peer_units.specs.Selections.{concerns, has_chosen, is_past, is_selected, speaks_of, takes_each_peer, takes_peer, takes_record};
@@ -20,7 +20,7 @@ use crate::table_dump_rule::TableDumpRule;
 use crate::unit::{Payload, PeerKey};
 use crate::unit_ref::{PayloadRef, UnitRef};
 use bgp_prefix::{Memory, Prefix, RouteKey};
-use bgp_update::{AttributeSet, Rules, Unicast};
+use bgp_update::{AttributeSet, ErrorRule, Rules, Unicast};
 use route_choice::ChosenRoutes;
 use std::alloc::Global;
 use std::marker::Model;
@@ -215,11 +215,20 @@ impl<F: Unicast> Selection<F> {
         self
     }
 
-    /// Returns the same selection, with these further attributes of routes kept.
+    /// Returns the same selection, with these further attributes of routes kept, and damage skipped.
     pub fn keeping(mut self, kept: AttributeSet) -> Selection<F>
         ensures { result ≡ record self { rules = rules_of F.family kept } }
     {
         self.rules = Rules::new(kept);
+        self
+    }
+
+    /// Returns the same selection, where this is done about damage. `Internal` and `External` are one here: each
+    /// message tells of which kind its peer is.
+    pub fn by_errors(mut self, errors: ErrorRule) -> Selection<F>
+        ensures { result ≡ record self { rules = by_errors errors self.rules } }
+    {
+        self.rules = self.rules.with_errors(errors);
         self
     }
 
@@ -268,6 +277,13 @@ impl<F: Unicast> Selection<F> {
         ensures { result ≡ self.now.state_peers }
     {
         self.state_peers
+    }
+
+    /// The peers that are chosen: those that one of these takes, or all if there are none.
+    pub fn peers(&self) -> &[PeerChoice]
+        ensures { result.now ≡ self.now.peers }
+    {
+        self.peers.as_slice()
     }
 
     /// The prefixes that are chosen.

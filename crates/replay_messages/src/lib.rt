@@ -9,5 +9,5 @@ mod notes;
 mod telling;
 
 pub use lists::{listed_dumps, listed_prefixes};
-pub use notes::tell_notes;
+pub use notes::{NoteContext, tell_notes};
 pub use telling::{has_ended_early, tell, tell_memory, tell_open, tell_summary, tell_write};

@@ -2,14 +2,28 @@
 //! begins with two spaces and `note: `; no report and no status depends on it.
 
 use command_line::{AddressFamily, FileName, RecordKind};
-use mrt_body::{Marked, RecordType, Unread};
-use peer_units::{PeerAddr, PeerKey, RibRule};
+use mrt_body::{Few, Marked, RecordType, Unread};
+use peer_units::{PeerAddr, PeerChoice, PeerKey, RibRule, StatePeers};
 use replay_io::Input;
-use replay_summary::{Idle, Summary};
+use replay_summary::{PeerRemarks, Summary};
 use std::alloc::{AllocError, Global};
 
 /// The most files or peers that a note names.
 const MOST_NAMES: usize = 5;
+
+/// What a run was asked for, as far as notes depend on it.
+#[derive(Clone, Copy)]
+pub struct NoteContext {
+    pub family: AddressFamily,
+    pub ribs: RibRule,
+    pub state_peers: StatePeers,
+    /// Whether prefixes are chosen.
+    pub of_prefixes: bool,
+    /// Whether a share of the peers is chosen.
+    pub of_share: bool,
+    /// Whether what happened is counted from a second on alone.
+    pub has_since: bool,
+}
 
 /// Names, split by commas. Further ones are counted.
 #[derive(Drop)]
@@ -74,16 +88,15 @@ fn names_of(
     Ok(names.text)
 }
 
-/// Returns a peer as reports print it, with its address in full: its AS number, a space and its address.
-fn peer_text(alloc: Global, peer: &PeerKey) -> Result<String, AllocError> {
-    let asn = peer.asn;
-    match peer.addr {
+/// Returns the text of an address, in full.
+fn address_text(alloc: Global, addr: PeerAddr) -> Result<String, AllocError> {
+    match addr {
         PeerAddr::V4(addr) => {
             let [a, b, c, d] = addr.to_be_bytes();
-            Ok(format!(in alloc; "{asn} {a}.{b}.{c}.{d}")?)
+            Ok(format!(in alloc; "{a}.{b}.{c}.{d}")?)
         }
         PeerAddr::V6(addr) => {
-            let mut text = format!(in alloc; "{asn} ")?;
+            let mut text = String::new(alloc);
             for group in 0u32..8 {
                 let value = (addr >> (112 - 16 * group)) & 0xFFFF;
                 let digits = format!(in alloc; "{value:04x}")?;
@@ -97,23 +110,122 @@ fn peer_text(alloc: Global, peer: &PeerKey) -> Result<String, AllocError> {
     }
 }
 
-/// Returns the note on units of peers that weren't up.
-fn idle_note(alloc: Global, idle: &Idle) -> Result<String, AllocError> {
-    let mut names = Names::new(alloc);
-    for named in idle.first_peers() {
-        if let Some((peer, units)) = named {
-            let peer = peer_text(alloc, peer)?;
-            let text = format!(in alloc; "{peer} ({units})")?;
-            names.add(text.as_str())?;
+/// What a note names.
+trait Named: Copy {
+    /// Returns its name.
+    fn name(self, alloc: Global) -> Result<String, AllocError>;
+}
+
+/// A peer as reports print it, with its address in full.
+impl Named for PeerKey {
+    fn name(self, alloc: Global) -> Result<String, AllocError> {
+        let asn = self.asn;
+        let address = address_text(alloc, self.addr)?;
+        format!(in alloc; "{asn} {address}")
+    }
+}
+
+/// A choice of peers as the option has it, with its address in full.
+impl Named for PeerChoice {
+    fn name(self, alloc: Global) -> Result<String, AllocError> {
+        let asn = self.asn;
+        match self.addr {
+            Some(addr) => {
+                let address = address_text(alloc, addr)?;
+                format!(in alloc; "{asn},{address}")
+            }
+            None => format!(in alloc; "{asn}"),
         }
     }
-    names.count = idle.peers();
+}
+
+/// A peer, with how many units are its.
+impl Named for (PeerKey, u64) {
+    fn name(self, alloc: Global) -> Result<String, AllocError> {
+        let (peer, units) = self;
+        let peer = peer.name(alloc)?;
+        format!(in alloc; "{peer} ({units})")
+    }
+}
+
+/// Returns the names of the first ones, and how many others there are.
+fn names_of_few<T: Named>(alloc: Global, few: &Few<T>) -> Result<String, AllocError> {
+    let mut names = Names::new(alloc);
+    for named in few.first() {
+        if let Some(one) = named {
+            names.add(one.name(alloc)?.as_str())?;
+        }
+    }
+    names.count = few.count();
     names.end(alloc)?;
-    let units = idle.units();
-    let names = names.text;
+    Ok(names.text)
+}
+
+/// Returns the note on units of peers that weren't up.
+fn idle_note(alloc: Global, remarks: &PeerRemarks) -> Result<String, AllocError> {
+    let names = names_of_few(alloc, &remarks.idle)?;
+    let units = remarks.idle_units;
     Ok(format!(in alloc;
         "units that changed nothing, since their peer wasn't up: {units}, of {names}; --states established takes them"
     )?)
+}
+
+/// Whether it is no address.
+fn is_zero(addr: PeerAddr) -> bool {
+    match addr {
+        PeerAddr::V4(addr) => addr == 0,
+        PeerAddr::V6(addr) => addr == 0,
+    }
+}
+
+/// Whether peers of which nothing came but state changes are told: others announced or withdrew keys, and no option
+/// says whose state changes are.
+fn tells_silent(remarks: &PeerRemarks, asked: NoteContext) -> bool {
+    let sees_all = !asked.of_prefixes && !asked.has_since;
+    sees_all
+        && asked.state_peers == StatePeers::Recorded
+        && remarks.silent.count() > 0
+        && remarks.keys > 0
+}
+
+/// Returns the note on peers of which nothing came but state changes, which may be those of other peers.
+fn silent_note(alloc: Global, silent: &Few<PeerKey>) -> Result<String, AllocError> {
+    let names = names_of_few(alloc, silent)?;
+    let count = silent.count();
+    let rule = match silent.first().first() {
+        Some(Some(peer)) if is_zero(peer.addr) => "by-as",
+        _ => "local",
+    };
+    Ok(format!(in alloc;
+        "peers of which nothing came but state changes: {count}, {names}; --state-peers {rule} takes these for those of other peers"
+    )?)
+}
+
+/// Returns the note on peers whose End-of-RIB marker came again.
+fn begun_again_note(alloc: Global, peers: &Few<PeerKey>) -> Result<String, AllocError> {
+    let names = names_of_few(alloc, peers)?;
+    let count = peers.count();
+    Ok(format!(in alloc;
+        "peers that sent an End-of-RIB marker again, without a state change between: {count}, {names}; what they had before stays"
+    )?)
+}
+
+/// Returns the notes on peers and prefixes that are chosen, and of which nothing came.
+fn chosen_notes(
+    alloc: Global,
+    remarks: &PeerRemarks,
+    asked: NoteContext,
+) -> Result<(Option<String>, Option<String>), AllocError> {
+    let mut peers = None;
+    if remarks.unheard.count() > 0 && !asked.of_share {
+        let names = names_of_few(alloc, &remarks.unheard)?;
+        peers = Some(format!(in alloc; "chosen peers of which nothing came: {names}")?);
+    }
+    let mut prefixes = None;
+    if asked.of_prefixes && !asked.has_since && remarks.keys == 0 {
+        prefixes = Some(format!(in alloc; "no chosen prefix is announced or withdrawn")?);
+    }
+    Ok((peers, prefixes))
 }
 
 /// Returns the note on files without a whole record, and the one on files that begin before the file named before them.
@@ -227,19 +339,32 @@ fn unread_note(
 fn notes_of(
     alloc: Global,
     summary: &Summary,
-    family: AddressFamily,
-    ribs: RibRule,
+    asked: NoteContext,
     inputs: &[Input<'_, '_>],
 ) -> Result<Vec<String>, AllocError> {
     let remarks = summary.remarks;
+    let peer_remarks = summary.peer_remarks;
     let mut notes = Vec::new(alloc);
-    if summary.idle.units() > 0 {
-        notes.push(idle_note(alloc, &summary.idle)?)?;
+    if peer_remarks.idle_units > 0 {
+        notes.push(idle_note(alloc, &peer_remarks)?)?;
+    }
+    if tells_silent(&peer_remarks, asked) {
+        notes.push(silent_note(alloc, &peer_remarks.silent)?)?;
+    }
+    let (peers, prefixes) = chosen_notes(alloc, &peer_remarks, asked)?;
+    if let Some(note) = peers {
+        notes.push(note)?;
+    }
+    if let Some(note) = prefixes {
+        notes.push(note)?;
+    }
+    if remarks.begun_again.count() > 0 {
+        notes.push(begun_again_note(alloc, &remarks.begun_again)?)?;
     }
     if remarks.ribs == 0 && remarks.other_family.records() > 0 {
         let records = remarks.other_family.records();
         let names = names_of(alloc, &remarks.other_family, inputs)?;
-        let (asked, other) = names_of_families(family);
+        let (asked, other) = names_of_families(asked.family);
         notes.push(format!(in alloc;
             "no RIB record of {asked} routes, and {records} of {other} routes, which aren't read: {names}"
         )?)?;
@@ -257,7 +382,7 @@ fn notes_of(
     if let Some(note) = early {
         notes.push(note)?;
     }
-    if let Some(note) = dumps_note(alloc, &remarks.dumps, ribs, inputs)? {
+    if let Some(note) = dumps_note(alloc, &remarks.dumps, asked.ribs, inputs)? {
         notes.push(note)?;
     }
     if remarks.repeats.records() > 0 {
@@ -274,18 +399,23 @@ fn notes_of(
 pub fn tell_notes(
     rt: &HostRuntime,
     summary: &Summary,
-    family: AddressFamily,
-    ribs: RibRule,
+    asked: NoteContext,
     inputs: &[Input<'_, '_>],
 ) {
-    match notes_of(rt.alloc(), summary, family, ribs, inputs) {
+    match notes_of(rt.alloc(), summary, asked, inputs) {
         Ok(notes) => {
             for note in &notes {
                 let _ = eprintln!(rt; "  note: {note}");
             }
+            if summary.remarks.is_partial {
+                tell_missing(rt);
+            }
         }
-        Err(_) => {
-            let _ = eprintln!(rt; "  note: notes are missing, since memory ran out");
-        }
+        Err(_) => tell_missing(rt),
     }
+}
+
+/// Reports that there was no memory for notes.
+fn tell_missing(rt: &HostRuntime) {
+    let _ = eprintln!(rt; "  note: notes are missing, since memory ran out");
 }

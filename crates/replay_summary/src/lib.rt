@@ -1,8 +1,10 @@
 //! What a run counted, for its summary, its notes and its status.
 #![tactic(auto)]
 
-mod idle;
+mod heard;
+mod peer_remarks;
 mod summary;
 
-pub use idle::Idle;
+pub use heard::{Heard, HeardPeer, remarks_on};
+pub use peer_remarks::PeerRemarks;
 pub use summary::{Summary, status};

@@ -3,11 +3,11 @@
 ghost use Rattle.std.specs.Prelude.{◌≡◌, ◌==◌, Ok, Err, if◌then◌else◌};
 ghost use Rattle.replay_summary.specs.Statuses.{status_of};
 
-use crate::idle::Idle;
+use crate::peer_remarks::PeerRemarks;
 use mrt_body::Remarks;
 use mrt_frame::ReplayError;
 
-/// What a replay counted. Nothing is proved of `idle` and `remarks`, from which notes are made.
+/// What a replay counted. Nothing is proved of `remarks` and `peer_remarks`, from which notes are made.
 #[derive(Clone, Copy, Debug, PartialEq, Eq)]
 pub struct Summary {
     /// Whole records that were cut.
@@ -24,10 +24,10 @@ pub struct Summary {
     pub peers: usize,
     /// Routes in the tables at the end.
     pub routes: u64,
-    /// Units of peers that weren't up.
-    pub idle: Idle,
     /// What is remarkable about the records.
     pub remarks: Remarks,
+    /// What is remarkable about the peers.
+    pub peer_remarks: PeerRemarks,
 }
 
 /// Returns the program's exit status after a run: 0 if the dumps are whole, 1 if damaged records were

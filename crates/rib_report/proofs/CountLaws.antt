@@ -65,7 +65,7 @@ module _ {K S : Type 0} {cmp : K → K → Ordering} (o : IsTotalOrder cmp) (exa
   among_tally seats = valued_in_order exact (count_in seats) (flat_map keys seats)
 
   -- the keys of one peer, in order and each with a count of 1
-  pub one_counted : (es : List (K × ℕ)) (s : S) → T (is_sorted cmp es) → ((q : K) → find cmp q es ≡ cond (list_any (eq_by_cmp cmp q) (keys s)) (Some 1) None) → es ≡ counted_among (s ∷ [])
+  one_counted : (es : List (K × ℕ)) (s : S) → T (is_sorted cmp es) → ((q : K) → find cmp q es ≡ cond (list_any (eq_by_cmp cmp q) (keys s)) (Some 1) None) → es ≡ counted_among (s ∷ [])
   one_counted es s up at =
       let ks = keys s in
       let all = flat_map keys (s ∷ []) in

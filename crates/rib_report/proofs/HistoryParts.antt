@@ -6,9 +6,8 @@ use Rattle.report_request.specs.Plain.{Layout}
 use Rattle.peer_tables.specs.Histories.{RowState}
 use Rattle.rib_report.specs.Cells.{Cell, all_members, line_by, texts}
 use Rattle.rib_report.specs.HistoryLines.{event_cells, listed_cells, no_route}
-use Rattle.rib_report.specs.HistoryParts.{listed_behind}
 use Rattle.rib_report.specs.Lines.{attribute_cells, path_cell}
-use Rattle.rib_report.specs.LineParts.{line_front}
+use Rattle.rib_report.specs.LineParts.{line_front, listed_behind}
 use Rattle.rib_report.proofs.RowLines.{line_in_parts}
 
 cells_in_parts : (format : Format) (layout : Layout) (cells : List Cell) (route : Option Route) (t m : List ℕ) (ts ms : List (List ℕ))

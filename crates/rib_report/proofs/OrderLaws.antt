@@ -15,7 +15,7 @@ use Rattle.bgp_prefix.proofs.OrderedLaws.{is_sorted-tabulated}
 use Rattle.rib_report.proofs.RunLaws.{set_of, set_same, below_set, put_front}
 use Rattle.rib_report.proofs.MergeLaws.{first_of, second_of, is_less, equal_of}
 
-pub twice : (b c : Bool) → (b || c) ≡ (b || (b || c))
+twice : (b c : Bool) → (b || c) ≡ (b || (b || c))
 twice true c = refl
 twice false c = refl
 

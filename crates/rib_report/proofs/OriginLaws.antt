@@ -17,8 +17,7 @@ use Rattle.peer_tables.specs.Tables.{Seat, TablesState}
 use Rattle.bgp_prefix.proofs.KeyLaws.{prefix_cmp_total, prefix_cmp_exact, prefix_tied}
 use Rattle.rib_report.specs.Plain.{OriginRow}
 use Rattle.rib_report.specs.Merges.{merged_lists}
-use Rattle.rib_report.specs.Runs.{pair_cmp, pair_eq}
-use Rattle.rib_report.specs.Reports.{seat_origins, origins_in_order, table_origins, has_several, origins_among, grouped_origins, origin_rows}
+use Rattle.rib_report.specs.Reports.{seat_origins, origins_in_order, table_origins, has_several, origins_among, grouped_origins, origin_rows, pair_cmp, pair_eq}
 use Rattle.rib_report.proofs.RunLaws.{set_of, set_same, set_run, below_set, map_same, all_mapped, all_from_index, all_weaker, filter_none}
 use Rattle.rib_report.proofs.MergeLaws.{joined_in_order}
 use Rattle.rib_report.proofs.OrderLaws.{any_in_order, in_order_rises, rising, deduped_in_order}

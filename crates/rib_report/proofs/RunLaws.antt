@@ -70,12 +70,3 @@ module _ {K : Type 0} {cmp : K → K → Ordering} (o : IsTotalOrder cmp) where
   set_same exact xs ys same =
       let at : (q : K) (ks : List K) → find cmp q (set_of cmp ks) ≡ cond (list_any (eq_by_cmp cmp q) ks) (Some tt) None = λ q ks. find-tabulated o (λ _. Some tt) (λ _ _ _. refl) q ks in
       same_entries cmp o exact (set_of cmp xs) (set_of cmp ys) (is_sorted-tabulated o (λ _. Some tt) xs) (is_sorted-tabulated o (λ _. Some tt) ys) (λ q. at q xs ∙ ap (λ b. cond b (Some tt) None) (same q) ∙ sym (at q ys))
-
-  -- a key that isn't below p and isn't p
-  pub above_first : ((x y : K) → cmp x y ≡ Equal → x ≡ y) → (p a : K) → is_lt (cmp a p) ≡ false → a ≢ p → cmp p a ≡ Less
-  above_first exact p a not_less apart =
-      elim (cmp a p) as (λ r. cmp a p ≡ r → is_lt r ≡ false → cmp p a ≡ Less) [
-        | Less ↦ λ e f. cc
-        | Equal ↦ λ e f. absurd (apart (exact a p e))
-        | Greater ↦ λ e f. o.antisymm p a ∙ ap ordering_reverse e
-      ] refl not_less

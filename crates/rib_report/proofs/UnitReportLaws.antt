@@ -15,7 +15,7 @@ use Rattle.peer_tables.specs.Tables.{Seat, TablesState, tables_of}
 use Rattle.peer_tables.specs.Standing.{AreTablesOf}
 use Rattle.rib_report.specs.declared.reports.churn.ChurnRow.{ChurnRow}
 use Rattle.rib_report.specs.Reports.{entry_row, is_longest, origin_pair, grouped_origins, has_several, in_place_order, rows_of_seat, matches_of_seat, seat_prefixes, is_visible_at, seat_origins, prefix_origin_cmp, seat_prefix_origins, is_seen_at, peer_churn, peer_row}
-use Rattle.rib_report.specs.UnitReports.{table_at, peer_at, prefixes_at, is_visible, prefix_origins_at, is_seen, HasReportsOf, HaveSameTexts}
+use Rattle.rib_report.specs.UnitReports.{table_at, peer_at, prefixes_at, is_visible, prefix_origins_at, is_seen, HasReportsOf}
 use Rattle.peer_tables.proofs.StandingLaws.{peer_seat, seats_from, AreTablesOf-only}
 
 module _ (units : List ReplayUnit) where
@@ -77,8 +77,5 @@ HasReportsOf-tables_of units refused =
 pub HasReportsOf-standing : (tables : TablesState) (units : List ReplayUnit) (refused : List Damage) → AreTablesOf tables units refused → HasReportsOf units refused tables
 HasReportsOf-standing tables units refused h = subst (HasReportsOf units refused) (sym (AreTablesOf-only tables units refused h)) (HasReportsOf-tables_of units refused)
 
-same_texts : (one : TablesState) → HaveSameTexts one one
-same_texts one = record { routes = λ layout. refl; matches = λ layout addr. refl; visibility = λ layout. refl; origins = λ layout. refl; seen = λ layout. refl; churn = λ layout. refl; peers = λ layout. refl; faults = λ layout. refl }
-
-pub HaveSameTexts-standing : (one other : TablesState) (units : List ReplayUnit) (refused : List Damage) → AreTablesOf one units refused → AreTablesOf other units refused → HaveSameTexts one other
-HaveSameTexts-standing one other units refused a b = subst (HaveSameTexts one) (AreTablesOf-only one units refused a ∙ sym (AreTablesOf-only other units refused b)) (same_texts one)
+pub same_tables : (one other : TablesState) (units : List ReplayUnit) (refused : List Damage) → AreTablesOf one units refused → AreTablesOf other units refused → one ≡ other
+same_tables one other units refused a b = AreTablesOf-only one units refused a ∙ sym (AreTablesOf-only other units refused b)

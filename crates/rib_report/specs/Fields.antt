@@ -1,11 +1,7 @@
--- Lines, their fields and the numbers in them.
+-- The fields of lines, and the numbers in them.
 use Rattle.std.specs.Prelude.{ℕ, ◌/◌, ◌%◌, List, [], ◌∷◌, ◌++◌, map, Option, Some, None, codes, decimal}
 use Rattle.std.specs.List.{join_with_byte}
 use Rattle.ip_text.specs.Digits.{decimal_glyph, digits_in}
-
--- fields, split by `|`, and the end of the line
-abbrev pub line : List (List ℕ) → List ℕ
-line fields = join_with_byte 124 fields ++ 10 ∷ []
 
 -- `-` where it is absent
 abbrev pub field : {A : Type 0} → (A → List ℕ) → Option A → List ℕ

@@ -2,7 +2,6 @@ pub mod Texts
 pub mod Fields
 pub mod Cells
 pub mod Plain
-pub mod Runs
 pub mod Merges
 pub mod Rows
 pub mod Reports
@@ -13,5 +12,4 @@ pub mod Lines
 pub mod LineParts
 pub mod UnitReports
 pub mod HistoryLines
-pub mod HistoryParts
 pub mod JsonValues

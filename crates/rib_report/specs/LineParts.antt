@@ -1,5 +1,5 @@
 -- The parts in which lines are written.
-use Rattle.std.specs.Prelude.{ℕ, List, [], ◌∷◌, ◌++◌}
+use Rattle.std.specs.Prelude.{ℕ, List, [], ◌∷◌, ◌++◌, Option, Some, None}
 use Rattle.std.specs.List.{flat_map, join_with_byte}
 use Rattle.bgp_prefix.specs.Keys.{RouteKey}
 use Rattle.bgp_update.specs.declared.route.Route.{Route}
@@ -11,7 +11,8 @@ use Rattle.report_request.specs.Plain.{Layout}
 use Rattle.rib_report.specs.Cells.{Cell, all_members, texts}
 use Rattle.rib_report.specs.Plain.{ShownPeer}
 use Rattle.rib_report.specs.KeptTexts.{kept_cells}
-use Rattle.rib_report.specs.Lines.{peer_text, key_text, attribute_cells}
+use Rattle.rib_report.specs.Lines.{peer_text, key_text, attribute_cells, path_cell}
+use Rattle.rib_report.specs.HistoryLines.{no_route}
 
 -- pieces, each behind a byte
 abbrev pub behind : ℕ → List (List ℕ) → List ℕ
@@ -39,6 +40,13 @@ end_as Json = 125 ∷ 10 ∷ []
 -- the columns of the attributes that are asked for, and the end of the line
 abbrev pub line_end : Format → AttributeSet → List KeptValue → List ℕ
 line_end format asked kept = cells_behind format (kept_cells asked kept) ++ end_as format
+
+-- what the line of what happened has behind the key, its end included
+abbrev pub listed_behind : Format → Layout → Option Route → List ℕ
+listed_behind format layout None = cells_behind format no_route ++ line_end format layout.attributes []
+listed_behind format layout (Some route) =
+    cells_behind format (path_cell route.path ∷ attribute_cells layout route)
+    ++ line_end format layout.attributes route.kept
 
 -- ---- text
 

@@ -20,7 +20,6 @@ use Rattle.adj_rib.specs.Selecting.{is_chosen_entry}
 use Rattle.peer_tables.specs.Histories.{PeerWatch}
 use Rattle.peer_tables.specs.Tables.{Seat, TablesState, all_faults}
 use Rattle.rib_report.specs.Rows.{TableRow}
-use Rattle.rib_report.specs.Runs.{pair_cmp}
 use Rattle.rib_report.specs.Plain.{VisibilityRow, OriginRow, SeenRow}
 use Rattle.rib_report.specs.declared.reports.churn.ChurnRow.{ChurnRow}
 use Rattle.rib_report.specs.declared.reports.peers.PeerRow.{PeerRow}
@@ -109,6 +108,14 @@ route_origin route = option_and_then origin_as_of route.path
 
 abbrev pub origin_pair : RouteKey × Route → Option (IpPrefix × ℕ)
 origin_pair e = option_map (λ origin. (e.0.prefix, origin)) (route_origin e.1)
+
+-- by prefix, and then by number
+abbrev pub pair_cmp : IpPrefix × ℕ → IpPrefix × ℕ → Ordering
+pair_cmp a b = ordering_then (prefix_cmp a.0 b.0) (nat_cmp a.1 b.1)
+
+-- the same prefix and number
+abbrev pub pair_eq : IpPrefix × ℕ → IpPrefix × ℕ → Bool
+pair_eq a b = prefix_eq a.0 b.0 && (a.1 == b.1)
 
 -- the prefix and the origin AS of each route that has one
 abbrev pub seat_origins : Seat → List (IpPrefix × ℕ)

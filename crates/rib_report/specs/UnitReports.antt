@@ -14,13 +14,11 @@ use Rattle.adj_rib.specs.Arrived.{recorded_places}
 use Rattle.adj_rib.specs.Churns.{churn_of, damaged_of, stopped, first_of}
 use Rattle.peer_tables.specs.Peers.{peers_of, units_of_peer}
 use Rattle.peer_tables.specs.Tables.{TablesState}
-use Rattle.report_request.specs.Plain.{Layout}
 use Rattle.rib_report.specs.Plain.{VisibilityRow, OriginRow, SeenRow}
 use Rattle.rib_report.specs.Rows.{TableRow}
 use Rattle.rib_report.specs.declared.reports.churn.ChurnRow.{ChurnRow}
 use Rattle.rib_report.specs.declared.reports.peers.PeerRow.{PeerRow}
 use Rattle.rib_report.specs.Reports.{entry_row, is_longest, origin_pair, grouped_origins, has_several, prefix_origin, prefix_origin_cmp, prefix_origin_eq, in_place_order, route_rows, match_rows, visibility_rows, origin_rows, seen_rows, churn_rows, peer_rows, fault_rows}
-use Rattle.rib_report.specs.Lines.{route_line, visibility_line, origin_line, seen_line, churn_line, peer_line, fault_line}
 
 -- the table that a peer's own units leave
 abbrev pub table_at : List ReplayUnit → PeerKey → List (RouteKey × Route)
@@ -103,22 +101,3 @@ pub record HasReportsOf (units : List ReplayUnit) (refused : List Damage) (table
   pub churn : churn_rows tables ≡ unit_churn units
   pub peers : peer_rows tables ≡ unit_peers units
   pub faults : fault_rows tables ≡ unit_faults units refused
-
--- The text of each report is the same, whatever the layout.
-pub record HaveSameTexts (one other : TablesState) : Type 0 where
-  pub routes : (layout : Layout) →
-      flat_map (route_line layout) (route_rows one) ≡ flat_map (route_line layout) (route_rows other)
-  pub matches : (layout : Layout) (addr : ℕ) →
-      flat_map (route_line layout) (match_rows one addr) ≡ flat_map (route_line layout) (match_rows other addr)
-  pub visibility : (layout : Layout) →
-      flat_map (visibility_line layout) (visibility_rows one) ≡ flat_map (visibility_line layout) (visibility_rows other)
-  pub origins : (layout : Layout) →
-      flat_map (origin_line layout) (origin_rows one) ≡ flat_map (origin_line layout) (origin_rows other)
-  pub seen : (layout : Layout) →
-      flat_map (seen_line layout) (seen_rows one) ≡ flat_map (seen_line layout) (seen_rows other)
-  pub churn : (layout : Layout) →
-      flat_map (churn_line layout) (churn_rows one) ≡ flat_map (churn_line layout) (churn_rows other)
-  pub peers : (layout : Layout) →
-      flat_map (peer_line layout) (peer_rows one) ≡ flat_map (peer_line layout) (peer_rows other)
-  pub faults : (layout : Layout) →
-      flat_map (fault_line layout) (fault_rows one) ≡ flat_map (fault_line layout) (fault_rows other)

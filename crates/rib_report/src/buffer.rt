@@ -10,7 +10,7 @@ ghost use Rattle.rib_report.specs.Texts.{empty_buffer, Adds};
 use crate::field::{Field, PeerText, ShownPeerOf};
 use crate::kept_columns::put_route_end;
 use crate::numbers::{NUMBERS_AT_ONCE, format_numbers};
-use crate::route_line::{ATTRIBUTES_BYTES, beginning_bytes, format_attributes, format_beginning};
+use crate::route_line::{format_attributes, format_beginning};
 use crate::text::Text;
 use bgp_prefix::{Prefix, RouteKey};
 use bgp_update::{PackedSegment, RouteRef, Unicast};
@@ -23,7 +23,7 @@ pub(crate) const CAPACITY: usize = 65_536;
 
 /// Pending bytes, and whether those before them were lost.
 #[derive(Drop)]
-pub(crate) struct TextBuffer {
+pub struct TextBuffer {
     bytes: [u8; CAPACITY],
     len: usize,
     failed: bool,
@@ -112,12 +112,15 @@ impl TextBuffer {
     }
 }
 
+/// The most bytes that are placed after one check for room, and one more.
+pub(crate) const PIECE_BYTES: usize = 1_024;
+
 /// Adds the text of a field.
 pub(crate) fn put<T: Text, A: Field>(text: &mut T, field: A)
-    requires { A.longest < CAPACITY }
+    requires { A.longest < PIECE_BYTES }
     ensures { Adds (T.state text.old) (T.state text.new) (A.text_of field) }
 {
-    text.make_room(A::longest() + 1);
+    text.make_room(PIECE_BYTES);
     let buffer = text.buffer_mut();
     buffer.len = field.format(&mut buffer.bytes, buffer.len, &buffer.shorts);
 }
@@ -131,7 +134,7 @@ pub(crate) fn put_peer_and_key<T: Text, F: WrittenAddress>(
 )
     ensures { Adds (T.state text.old) (T.state text.new) (line_beginning peer.now key.now) }
 {
-    text.make_room(beginning_bytes::<F>());
+    text.make_room(PIECE_BYTES);
     let buffer = text.buffer_mut();
     buffer.len = format_beginning(&mut buffer.bytes, buffer.len, &buffer.shorts, peer, key);
 }
@@ -147,7 +150,7 @@ pub(crate) fn put_attributes<T: Text, F: Unicast>(
         (attribute_fields layout route.now ++ line_end Text layout.attributes route.now.kept) }
 {
     let asked = layout.attributes;
-    text.make_room(ATTRIBUTES_BYTES);
+    text.make_room(PIECE_BYTES);
     let buffer = text.buffer_mut();
     let at = format_attributes(&mut buffer.bytes, buffer.len, &buffer.shorts, layout, route);
     if asked.is_empty() {

@@ -1,21 +1,16 @@
 //! The columns of a line, in both formats: a field of text, and members of JSON (RFC 8259).
 
-ghost use Rattle.std.specs.Prelude.{◌≡◌, ℕ, ◌+◌, ◌≤◌, ◌<◌, ◌++◌, [], ◌∷◌, List, decimal, length};
+ghost use Rattle.std.specs.Prelude.{◌≡◌, ◌+◌, ◌≤◌, ◌<◌, ◌++◌, [], ◌∷◌};
 ghost use Rattle.rib_report.specs.Cells.{line_as, member, or_null, quoted};
 ghost use Rattle.rib_report.specs.LineParts.{front_as};
-ghost use Rattle.rib_report.specs.Lines.{addr_text, identifier, truth};
-ghost use Rattle.report_request.specs.declared.column.Key.TheVariants.{PathId, Prefix as PrefixKey};
+ghost use Rattle.rib_report.specs.Lines.{identifier, truth};
 ghost use Rattle.rib_report.specs.Texts.{Adds};
-ghost use Rattle.ip_text.specs.Formats.{Formats};
 
 use crate::buffer::put;
-use crate::field::{Byte, Field, Joined, ShownPrefix, format_addr};
+use crate::field::{Byte, Field, Joined};
 use crate::text::Text;
-use bgp_prefix::{Prefix, RouteKey};
-use bgp_update::FamilyMark;
-use ip_text::{AddressForm, DecimalTable, WrittenAddress, format_byte, format_number, format_text};
-use peer_units::PeerAddr;
-use report_request::{Format, Key, LayoutOf};
+use ip_text::{DecimalTable, format_byte, format_text};
+use report_request::{Format, Key};
 
 // ---- values
 
@@ -27,10 +22,6 @@ impl<A: Field> Field for Quoted<A> {
     ghost text_of = { λ q. quoted (A.text_of q.0) };
 
     ghost longest = { A.longest + 2 };
-
-    fn longest() -> usize {
-        A::longest().saturating_add(2)
-    }
 
     #[inline(always)]
     #[tactic(auto, using(ip_text::proofs::FormatLaws::Formats_trans))]
@@ -49,10 +40,6 @@ impl<A: Field> Field for OrNull<A> {
     ghost text_of = { λ o. or_null A.text_of o.0 };
 
     ghost longest = { 4 + A.longest };
-
-    fn longest() -> usize {
-        A::longest().saturating_add(4)
-    }
 
     #[inline(always)]
     fn format(self, bytes: &mut [u8], at: usize, shorts: &DecimalTable) -> usize {
@@ -79,10 +66,6 @@ impl Field for Truth {
 
     ghost longest = { 5 };
 
-    fn longest() -> usize {
-        5
-    }
-
     #[inline(always)]
     fn format(self, bytes: &mut [u8], at: usize, _shorts: &DecimalTable) -> usize {
         if self.0 {
@@ -93,48 +76,11 @@ impl Field for Truth {
     }
 }
 
-/// The address of a peer.
-#[derive(Clone, Copy)]
-pub(crate) struct ShownAddr {
-    pub(crate) addr: PeerAddr,
-    pub(crate) form: AddressForm,
-}
-
-impl Field for ShownAddr {
-    ghost text_of = { λ a. addr_text a.form a.addr };
-
-    ghost longest = { 39 };
-
-    fn longest() -> usize {
-        39
-    }
-
-    fn format(self, bytes: &mut [u8], at: usize, shorts: &DecimalTable) -> usize {
-        format_addr(bytes, at, shorts, self.form, self.addr)
-    }
-}
-
-/// A path identifier, or `null` where it is 0.
-#[derive(Clone, Copy)]
-pub(crate) struct IdentifierOrNull(pub(crate) u32);
-
-impl Field for IdentifierOrNull {
-    ghost text_of = { λ i. or_null decimal (identifier i.0) };
-
-    ghost longest = { 12 };
-
-    fn longest() -> usize {
-        12
-    }
-
-    #[inline(always)]
-    fn format(self, bytes: &mut [u8], at: usize, shorts: &DecimalTable) -> usize {
-        if self.0 == 0 {
-            format_text(bytes, at, b"null")
-        } else {
-            format_number(bytes, at, shorts, self.0)
-        }
-    }
+/// Returns a path identifier, if it isn't 0.
+pub(crate) fn identifier_if_any(id: u32) -> Option<u32>
+    ensures { result ≡ identifier id }
+{
+    if id == 0 { None } else { Some(id) }
 }
 
 // ---- members
@@ -150,10 +96,6 @@ impl<A: Field> Field for Member<A> {
     ghost text_of = { λ m. member m.key (A.text_of m.value) };
 
     ghost longest = { 19 + A.longest };
-
-    fn longest() -> usize {
-        A::longest().saturating_add(19)
-    }
 
     #[inline(always)]
     #[tactic(auto, using(ip_text::proofs::FormatLaws::Formats_trans))]
@@ -174,10 +116,6 @@ impl<A: Field, B: Field> Field for Comma<A, B> {
 
     ghost longest = { A.longest + (1 + B.longest) };
 
-    fn longest() -> usize {
-        A::longest().saturating_add(B::longest().saturating_add(1))
-    }
-
     #[inline(always)]
     #[tactic(auto, using(ip_text::proofs::FormatLaws::Formats_trans))]
     fn format(self, bytes: &mut [u8], at: usize, shorts: &DecimalTable) -> usize {
@@ -195,10 +133,6 @@ impl<A: Field> Field for Object<A> {
     ghost text_of = { λ o. 123 ∷ A.text_of o.0 ++ 125 ∷ 10 ∷ [] };
 
     ghost longest = { A.longest + 3 };
-
-    fn longest() -> usize {
-        A::longest().saturating_add(3)
-    }
 
     #[inline(always)]
     #[tactic(auto, using(ip_text::proofs::FormatLaws::Formats_trans))]
@@ -282,9 +216,12 @@ macro_rules! route_key {
     ($layout:expr, $key:expr) => {{
         let layout = *$layout;
         let key = $key;
+        let prefix = $crate::cells::prefix!(&layout, key.prefix);
+        let id = $crate::cells::identifier_if_any(key.id);
+        let id = $crate::cells::if_any!(report_request::Key::PathId, id);
         $crate::cells::Cells {
             text: $crate::field::ShownKey { key, layout },
-            json: $crate::cells::key_members(&layout, &key),
+            json: $crate::cells::Comma(prefix.json, id.json),
         }
     }};
 }
@@ -294,27 +231,16 @@ macro_rules! columns {
     (peer($layout:expr, $key:expr), $($rest:tt)+) => {{
         let layout = *$layout;
         let key = $key;
-        let form = layout.peer_addresses;
-        let asn = key.asn;
-        let addr = key.addr;
-        let addr = $crate::cells::ShownAddr { addr, form };
-        let shown = $crate::field::ShownPeer { key, layout };
+        let addr = $crate::field::ShownAddr {
+            addr: key.addr,
+            form: layout.peer_addresses,
+        };
+        let asn = $crate::cells::plain!(report_request::Key::PeerAsn, key.asn);
+        let ip = $crate::cells::word!(report_request::Key::PeerIp, addr);
         let rest = $crate::cells::columns!($($rest)+);
         $crate::cells::Cells {
-            text: (shown, rest.text),
-            json: $crate::cells::Comma(
-                $crate::cells::Member {
-                    key: report_request::Key::PeerAsn,
-                    value: asn,
-                },
-                $crate::cells::Comma(
-                    $crate::cells::Member {
-                        key: report_request::Key::PeerIp,
-                        value: $crate::cells::Quoted(addr),
-                    },
-                    rest.json,
-                ),
-            ),
+            text: ($crate::field::ShownPeer { key, layout }, rest.text),
+            json: $crate::cells::Comma(asn.json, $crate::cells::Comma(ip.json, rest.json)),
         }
     }};
     ($last:expr) => { $last };
@@ -335,40 +261,6 @@ pub(crate) use plain;
 pub(crate) use prefix;
 pub(crate) use route_key;
 pub(crate) use word;
-
-/// The members of a route's key.
-pub(crate) type KeyMembers<F> = Comma<
-    Member<Quoted<ShownPrefix<Prefix<F>, FamilyMark<F>>>>,
-    Member<IdentifierOrNull>,
->;
-
-/// Returns the members of a route's key.
-#[inline(always)]
-pub(crate) fn key_members<F: WrittenAddress>(
-    layout: &LayoutOf<F>,
-    key: &RouteKey<Prefix<F>>,
-) -> KeyMembers<F>
-    ensures prefix { result.0 ≡ record {
-      key = PrefixKey;
-      value = record { 0 = record { prefix = key.now.prefix; layout = layout.now } };
-    } }
-    ensures id { result.1 ≡ record { key = PathId; value = record { 0 = key.now.id } } }
-{
-    let prefix = ShownPrefix {
-        prefix: key.prefix,
-        layout: *layout,
-    };
-    Comma(
-        Member {
-            key: Key::Prefix,
-            value: Quoted(prefix),
-        },
-        Member {
-            key: Key::PathId,
-            value: IdentifierOrNull(key.id),
-        },
-    )
-}
 
 // ---- lines
 

@@ -1,11 +1,10 @@
 //! What lines are made of: values with a text of limited length.
 
-ghost use Rattle.std.specs.Prelude.{◌≡◌, ℕ, ◌+◌, ◌-◌, ◌^◌, ◌<◌, ◌≤◌, ◌++◌, [], ◌∷◌, List, decimal, length, min};
+ghost use Rattle.std.specs.Prelude.{◌≡◌, ℕ, ◌+◌, ◌<◌, ◌≤◌, ◌++◌, [], ◌∷◌, List, decimal, length};
 ghost use Rattle.ip_text.specs.Formats.{Formats};
 ghost use Rattle.rib_report.specs.Cells.{or_null};
 ghost use Rattle.rib_report.specs.Fields.{field, time_text};
 ghost use Rattle.ip_text.specs.Ipv6Texts.{ipv6_text};
-ghost use Rattle.ip_text.specs.AddressTexts.{address_text};
 ghost use Rattle.rib_report.specs.Lines.{addr_text, peer_text, prefix_text, identifier_text, key_text, next_hop_text, origin_text, aggregator_text, atomic_text, state_text};
 
 use bgp_prefix::{Prefix, RouteKey};
@@ -27,10 +26,6 @@ pub(crate) trait Field: Copy {
     /// An upper bound of the length of its text.
     ghost longest: { ℕ };
 
-    /// An upper bound of the length of its text, in bytes.
-    fn longest() -> usize
-        ensures { result ≡ min longest (2 ^ 64 - 1) };
-
     /// Writes the text, and returns the position after it. There has to be room for one byte more than the longest
     /// text.
     fn format(self, bytes: &mut [u8], at: usize, shorts: &DecimalTable) -> usize
@@ -47,10 +42,6 @@ impl Field for Byte {
 
     ghost longest = { 1 };
 
-    fn longest() -> usize {
-        1
-    }
-
     #[inline(always)]
     fn format(self, bytes: &mut [u8], at: usize, _shorts: &DecimalTable) -> usize {
         format_byte(bytes, at, self.0)
@@ -64,10 +55,6 @@ impl<A: Field, B: Field> Field for (A, B) {
     ghost text_of = { λ f. A.text_of f.0 ++ 124 ∷ B.text_of f.1 };
 
     ghost longest = { A.longest + (1 + B.longest) };
-
-    fn longest() -> usize {
-        A::longest().saturating_add(B::longest().saturating_add(1))
-    }
 
     #[inline(always)]
     #[tactic(auto, using(ip_text::proofs::FormatLaws::Formats_trans))]
@@ -87,10 +74,6 @@ impl<A: Field, B: Field> Field for Joined<A, B> {
 
     ghost longest = { A.longest + B.longest };
 
-    fn longest() -> usize {
-        A::longest().saturating_add(B::longest())
-    }
-
     #[inline(always)]
     #[tactic(auto, using(ip_text::proofs::FormatLaws::Formats_trans))]
     fn format(self, bytes: &mut [u8], at: usize, shorts: &DecimalTable) -> usize {
@@ -104,10 +87,6 @@ impl<F: Field> Field for Option<F> {
     ghost text_of = { field F.text_of };
 
     ghost longest = { 1 + F.longest };
-
-    fn longest() -> usize {
-        F::longest().saturating_add(1)
-    }
 
     #[inline(always)]
     fn format(self, bytes: &mut [u8], at: usize, shorts: &DecimalTable) -> usize {
@@ -125,10 +104,6 @@ impl Field for u32 {
 
     ghost longest = { 12 };
 
-    fn longest() -> usize {
-        12
-    }
-
     #[inline(always)]
     fn format(self, bytes: &mut [u8], at: usize, shorts: &DecimalTable) -> usize {
         format_number(bytes, at, shorts, self)
@@ -139,10 +114,6 @@ impl Field for u128 {
     ghost text_of = { decimal };
 
     ghost longest = { 39 };
-
-    fn longest() -> usize {
-        39
-    }
 
     fn format(self, bytes: &mut [u8], at: usize, shorts: &DecimalTable) -> usize {
         if self < 1_000_000 {
@@ -161,10 +132,6 @@ impl Field for Microseconds {
     ghost text_of = { λ t. time_text t.0 };
 
     ghost longest = { 46 };
-
-    fn longest() -> usize {
-        46
-    }
 
     fn format(self, bytes: &mut [u8], at: usize, shorts: &DecimalTable) -> usize {
         let seconds = (self.0 / 1_000_000) as u128;
@@ -193,21 +160,24 @@ pub(crate) fn entry_field(entry: Option<u16>) -> Option<u32>
 
 // ---- peers and keys
 
-/// Writes an address of a peer.
-#[inline(always)]
-pub(crate) fn format_addr(
-    bytes: &mut [u8],
-    at: usize,
-    shorts: &DecimalTable,
-    form: AddressForm,
-    addr: PeerAddr,
-) -> usize
-    requires { at + 39 < length bytes.old }
-    ensures { Formats bytes.old at bytes.new result 39 (addr_text form addr) }
-{
-    match addr {
-        PeerAddr::V4(addr) => format_ipv4(bytes, at, shorts, addr),
-        PeerAddr::V6(addr) => format_ipv6(bytes, at, shorts, form, addr),
+/// The address of a peer.
+#[derive(Clone, Copy)]
+pub(crate) struct ShownAddr {
+    pub(crate) addr: PeerAddr,
+    pub(crate) form: AddressForm,
+}
+
+impl Field for ShownAddr {
+    ghost text_of = { λ a. addr_text a.form a.addr };
+
+    ghost longest = { 39 };
+
+    #[inline(always)]
+    fn format(self, bytes: &mut [u8], at: usize, shorts: &DecimalTable) -> usize {
+        match self.addr {
+            PeerAddr::V4(addr) => format_ipv4(bytes, at, shorts, addr),
+            PeerAddr::V6(addr) => format_ipv6(bytes, at, shorts, self.form, addr),
+        }
     }
 }
 
@@ -226,16 +196,16 @@ impl<F: Unicast> Field for ShownPeer<FamilyMark<F>> {
 
     ghost longest = { 52 };
 
-    fn longest() -> usize {
-        52
-    }
-
     #[inline(never)]
     #[tactic(auto, using(ip_text::proofs::FormatLaws::Formats_trans))]
     fn format(self, bytes: &mut [u8], at: usize, shorts: &DecimalTable) -> usize {
         let at = format_number(bytes, at, shorts, self.key.asn);
         let at = format_byte(bytes, at, b' ');
-        format_addr(bytes, at, shorts, self.layout.peer_addresses, self.key.addr)
+        let shown = ShownAddr {
+            addr: self.key.addr,
+            form: self.layout.peer_addresses,
+        };
+        shown.format(bytes, at, shorts)
     }
 }
 
@@ -247,10 +217,6 @@ impl Field for SessionUp {
     ghost text_of = { λ s. state_text s.0 };
 
     ghost longest = { 4 };
-
-    fn longest() -> usize {
-        4
-    }
 
     fn format(self, bytes: &mut [u8], at: usize, _shorts: &DecimalTable) -> usize {
         if self.0 {
@@ -343,10 +309,6 @@ impl<F: WrittenAddress> Field for ShownPrefix<Prefix<F>, FamilyMark<F>> {
 
     ghost longest = { F.MOST_BYTES + 4 };
 
-    fn longest() -> usize {
-        F::MOST_BYTES.saturating_add(4)
-    }
-
     #[inline(always)]
     #[tactic(auto, using(ip_text::proofs::FormatLaws::Formats_trans))]
     fn format(self, bytes: &mut [u8], at: usize, shorts: &DecimalTable) -> usize {
@@ -382,10 +344,6 @@ impl<F: WrittenAddress> Field for ShownKey<Prefix<F>, FamilyMark<F>> {
     ghost text_of = { λ k. key_text k.layout k.key };
 
     ghost longest = { F.MOST_BYTES + 4 + 13 };
-
-    fn longest() -> usize {
-        F::MOST_BYTES.saturating_add(4).saturating_add(13)
-    }
 
     #[inline(always)]
     #[tactic(auto, using(ip_text::proofs::FormatLaws::Formats_trans))]
@@ -445,10 +403,6 @@ impl Field for Origin {
 
     ghost longest = { 10 };
 
-    fn longest() -> usize {
-        10
-    }
-
     /// The short texts are arrays made here, which are known not to overlap with `bytes`.
     #[inline(always)]
     fn format(self, bytes: &mut [u8], at: usize, _shorts: &DecimalTable) -> usize {
@@ -464,10 +418,6 @@ impl Field for Aggregator {
     ghost text_of = { aggregator_text };
 
     ghost longest = { 28 };
-
-    fn longest() -> usize {
-        28
-    }
 
     #[inline(never)]
     #[tactic(auto, using(ip_text::proofs::FormatLaws::Formats_trans))]
@@ -486,10 +436,6 @@ impl Field for Atomic {
     ghost text_of = { λ a. atomic_text a.0 };
 
     ghost longest = { 6 };
-
-    fn longest() -> usize {
-        6
-    }
 
     #[inline(always)]
     fn format(self, bytes: &mut [u8], at: usize, _shorts: &DecimalTable) -> usize {

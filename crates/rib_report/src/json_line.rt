@@ -1,8 +1,7 @@
 //! The line of a route in JSON.
 
-ghost use Rattle.std.specs.Prelude.{◌≡◌, ◌≤◌, ◌+◌, ◌<◌, [], ◌∷◌, ◌++◌, decimal, length};
+ghost use Rattle.std.specs.Prelude.{◌≡◌, ◌≤◌, ◌+◌, ◌<◌, [], ◌∷◌, ◌++◌, decimal};
 ghost use Rattle.ip_text.specs.Digits.{ipv4_text};
-ghost use Rattle.ip_text.specs.Formats.{Formats};
 ghost use Rattle.report_request.specs.declared.format.Format.TheVariants.{Json};
 ghost use Rattle.report_request.specs.declared.column.Key.TheVariants.{AsPath, OriginAsns};
 ghost use Rattle.rib_report.specs.Cells.{line_by, listed, member, one_or_none, or_null, quoted};
@@ -14,12 +13,12 @@ ghost use Rattle.rib_report.specs.Texts.{Adds};
 use crate::buffer::put;
 use crate::cells::{Comma, Truth, columns, if_any, plain, put_front, quoted_if_any, route_key};
 use crate::field::{Byte, Field, Joined, PeerText, format_next_hop};
-use crate::kept_columns::{put_line_end, put_route_end};
+use crate::kept_columns::{Dotted, put_line_end, put_route_end};
 use crate::route_line::put_segments;
 use crate::text::Text;
 use bgp_prefix::{Prefix, RouteKey};
 use bgp_update::{Aggregator, FamilyMark, KeptValues, NextHop, PackedSegments, RouteRef, Unicast};
-use ip_text::{DecimalTable, WrittenAddress, format_byte, format_ipv4, format_number, format_text};
+use ip_text::{DecimalTable, WrittenAddress, format_byte, format_text};
 use peer_units::PeerKey;
 use report_request::{Format, Key, Layout, LayoutOf};
 
@@ -35,10 +34,6 @@ impl<F: Unicast> Field for HopOrNull<FamilyMark<F>> {
 
     ghost longest = { 82 };
 
-    fn longest() -> usize {
-        82
-    }
-
     #[inline(always)]
     #[tactic(auto, using(ip_text::proofs::FormatLaws::Formats_trans))]
     fn format(self, bytes: &mut [u8], at: usize, shorts: &DecimalTable) -> usize {
@@ -53,53 +48,18 @@ impl<F: Unicast> Field for HopOrNull<FamilyMark<F>> {
     }
 }
 
-/// The AS number of an aggregator, or `null`.
-#[derive(Clone, Copy)]
-struct AsnOrNull(Option<Aggregator>);
-
-impl Field for AsnOrNull {
-    ghost text_of = { λ a. or_null (λ aggregator. decimal aggregator.asn) a.0 };
-
-    ghost longest = { 12 };
-
-    fn longest() -> usize {
-        12
-    }
-
-    #[inline(always)]
-    fn format(self, bytes: &mut [u8], at: usize, shorts: &DecimalTable) -> usize {
-        match self.0 {
-            Some(aggregator) => format_number(bytes, at, shorts, aggregator.asn),
-            None => format_text(bytes, at, b"null"),
-        }
-    }
+/// Returns the AS number of an aggregator.
+fn asn_field(aggregator: Option<Aggregator>) -> Option<u32>
+    ensures { or_null decimal result ≡ or_null (λ a. decimal a.asn) aggregator }
+{
+    aggregator.map(|aggregator| aggregator.asn)
 }
 
-/// The address of an aggregator in quotes, or `null`.
-#[derive(Clone, Copy)]
-struct IpOrNull(Option<Aggregator>);
-
-impl Field for IpOrNull {
-    ghost text_of = { λ a. or_null (λ aggregator. quoted (ipv4_text aggregator.addr)) a.0 };
-
-    ghost longest = { 17 };
-
-    fn longest() -> usize {
-        17
-    }
-
-    #[inline(always)]
-    #[tactic(auto, using(ip_text::proofs::FormatLaws::Formats_trans))]
-    fn format(self, bytes: &mut [u8], at: usize, shorts: &DecimalTable) -> usize {
-        match self.0 {
-            None => format_text(bytes, at, b"null"),
-            Some(aggregator) => {
-                let at = format_byte(bytes, at, b'"');
-                let at = format_ipv4(bytes, at, shorts, aggregator.addr);
-                format_byte(bytes, at, b'"')
-            }
-        }
-    }
+/// Returns the address of an aggregator.
+fn addr_field(aggregator: Option<Aggregator>) -> Option<Dotted>
+    ensures { or_null (λ d. quoted (ipv4_text d.0)) result ≡ or_null (λ a. quoted (ipv4_text a.addr)) aggregator }
+{
+    aggregator.map(|aggregator| Dotted(aggregator.addr))
 }
 
 /// Adds a path in quotes.
@@ -159,8 +119,8 @@ fn put_attribute_members<T: Text, F: Unicast>(
         Comma(
             plain!(Key::Atomic, Truth(route.atomic())).json,
             Comma(
-                plain!(Key::AggrAsn, AsnOrNull(aggregator)).json,
-                plain!(Key::AggrIp, IpOrNull(aggregator)).json,
+                if_any!(Key::AggrAsn, asn_field(aggregator)).json,
+                if_any!(Key::AggrIp, quoted_if_any(addr_field(aggregator))).json,
             ),
         ),
     );

@@ -31,16 +31,12 @@ use report_request::{Format, attribute_name};
 
 /// An IPv4 address.
 #[derive(Clone, Copy)]
-struct Dotted(u32);
+pub(crate) struct Dotted(pub(crate) u32);
 
 impl Field for Dotted {
     ghost text_of = { λ d. ipv4_text d.0 };
 
     ghost longest = { 15 };
-
-    fn longest() -> usize {
-        15
-    }
 
     fn format(self, bytes: &mut [u8], at: usize, shorts: &DecimalTable) -> usize {
         format_ipv4(bytes, at, shorts, self.0)
@@ -55,10 +51,6 @@ impl Field for TwoDigits {
     ghost text_of = { λ b. byte_digits b.0 };
 
     ghost longest = { 2 };
-
-    fn longest() -> usize {
-        2
-    }
 
     #[tactic(auto, using(ip_text::proofs::FormatLaws::Formats_trans))]
     fn format(self, bytes: &mut [u8], at: usize, _shorts: &DecimalTable) -> usize {

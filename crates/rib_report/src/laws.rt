@@ -13,7 +13,7 @@ ghost use Rattle.peer_units.specs.Choices.{Choices};
 ghost use Rattle.adj_rib.specs.Selecting.{is_chosen_entry};
 ghost use Rattle.peer_tables.specs.Tables.{Seat, TablesState, all_faults, chosen_seat, chosen_tables};
 ghost use Rattle.peer_tables.specs.Standing.{AreTablesOf};
-ghost use Rattle.rib_report.specs.UnitReports.{HasReportsOf, HaveSameTexts, peer_at};
+ghost use Rattle.rib_report.specs.UnitReports.{HasReportsOf, peer_at};
 ghost use Rattle.std.specs.FinMap.{find, is_sorted};
 ghost use Rattle.std.specs.List.{AllByRecursion, count_by, filter, list_any};
 ghost use Rattle.std.specs.List.Sorted.{IsSortedByKey, IsStableByKey};
@@ -36,13 +36,13 @@ ghost use Rattle.rib_report.specs.Rows.{TableRow, visibility_pair, origins_pair,
 ghost use Rattle.rib_report.specs.Reports.{place_cmp, visibility_of, visibility_rows, origins_of, origin_rows, fault_rows, is_seen_at, is_visible_at, prefix_origin, prefix_origin_cmp, prefix_origin_eq, seen_of, seen_rows, is_chosen_row, origins_seen, share_of, rest_of, route_rows, match_rows, churn_rows, peer_rows};
 
 /// The reports on tables that stand for units and refusals have the rows that are defined over these alone,
-/// where no lane, no number of workers and no order of collecting occurs. So tables that stand for the same
-/// units and refusals have the same text in every report.
+/// where no lane, no number of workers and no order of collecting occurs. Tables that stand for the same units and
+/// refusals are the same, and so have the same text in every report.
 pub fn reports_are_of_units()
     ensures rows { (tables : TablesState) (units : List ReplayUnit) (refused : List ListedFault) →
         AreTablesOf tables units refused → HasReportsOf units refused tables }
-    ensures texts { (one other : TablesState) (units : List ReplayUnit) (refused : List ListedFault) →
-        AreTablesOf one units refused → AreTablesOf other units refused → HaveSameTexts one other }
+    ensures same { (one other : TablesState) (units : List ReplayUnit) (refused : List ListedFault) →
+        AreTablesOf one units refused → AreTablesOf other units refused → one ≡ other }
 {}
 
 /// Where state changes are taken as they are recorded, a peer is shown as up exactly if it is up.

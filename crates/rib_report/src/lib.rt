@@ -56,17 +56,18 @@ pub use laws::{
     recorded_peers_are_shown_as_they_are, reports_are_of_units, rows_of_choices, rows_of_shares,
     seen_counts_peers, texts_need_no_escape, visibility_counts_peers,
 };
+pub use line::{Line, RowList};
 pub use peer_tables::{
     By, Gathered, HistoryRows, Listed, Listing, Seated, Tables, collect, collected_stand_for_units,
     lanes_make_no_difference, tables_are_of_units,
 };
 pub use report_request::{Format, Layout, LayoutOf};
-pub use reports::churn::{ChurnRow, churn, watched_churn, write_churn};
-pub use reports::faults::{faults, write_faults};
-pub use reports::history::write_history;
+pub use reports::churn::{ChurnRow, churn, watched_churn};
+pub use reports::faults::faults;
 pub use reports::matches::matches;
-pub use reports::origins::{OriginRow, origins, write_origins};
-pub use reports::peers::{PeerRow, peers, write_peers};
-pub use reports::seen::{SeenRow, seen, write_seen};
-pub use reports::tables::{TableRow, list_tables, table_rows, write_rows};
-pub use reports::visibility::{VisibilityRow, visibility, write_visibility};
+pub use reports::origins::{OriginRow, origins};
+pub use reports::peers::{PeerRow, peers};
+pub use reports::seen::{SeenRow, seen};
+pub use reports::tables::{TableRow, list_tables, table_rows};
+pub use reports::visibility::{VisibilityRow, visibility};
+pub use write::write_lines;

@@ -10,7 +10,7 @@ use bgp_update::Unicast;
 use report_request::LayoutOf;
 
 /// The content of one line of a report on routes of a family.
-pub(crate) trait Line<F: Unicast> {
+pub trait Line<F: Unicast> {
     /// The line, including its end, by the layout.
     ghost line: { Layout → Self → List ℕ };
 
@@ -26,7 +26,7 @@ pub(crate) trait Line<F: Unicast> {
 }
 
 /// Rows of a report, in order, which are reached by their numbers.
-pub(crate) trait RowList<F: Unicast>: Copy {
+pub trait RowList<F: Unicast>: Copy {
     ghost Row: { Type 0 };
 
     ghost rows: { Self → List Row };

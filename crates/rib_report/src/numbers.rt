@@ -1,6 +1,6 @@
 //! Lists of numbers in text.
 
-ghost use Rattle.std.specs.Prelude.{◌+◌, ◌-◌, ◌*◌, ◌<◌, ◌≤◌, ◌∷◌, decimal, length};
+ghost use Rattle.std.specs.Prelude.{◌+◌, ◌-◌, ◌*◌, ◌<◌, ◌≤◌, ◌∷◌, length};
 ghost use Rattle.std.specs.List.{between};
 ghost use Rattle.rib_report.specs.Texts.{Adds};
 ghost use Rattle.ip_text.specs.Formats.{Formats};

@@ -19,15 +19,6 @@ use bgp_update::{PackedSegment, PackedSegments, RouteRef, SegmentKind, Unicast};
 use ip_text::{DecimalTable, WrittenAddress, format_byte};
 use report_request::{Format, LayoutOf};
 
-/// Returns the most bytes of what a line begins with, and one more.
-#[inline(always)]
-pub(crate) fn beginning_bytes<F: WrittenAddress>() -> usize
-    ensures bytes { result ≡ F.MOST_BYTES + 72 }
-    ensures few { result ≤ 111 }
-{
-    F::MOST_BYTES + 72
-}
-
 /// Writes what a line begins with: a peer, a bar and a key.
 #[inline(always)]
 #[tactic(auto, using(ip_text::proofs::FormatLaws::Formats_trans))]
@@ -48,9 +39,6 @@ pub(crate) fn format_beginning<F: WrittenAddress>(
     };
     shown.format(bytes, at, shorts)
 }
-
-/// The most bytes of the fields after the path, of the end of a line, and one more.
-pub(crate) const ATTRIBUTES_BYTES: usize = 160;
 
 /// Writes the fields that each route has after the path, a bar before each. Each field is written as soon as it is
 /// read, so that none of them is stored in between.

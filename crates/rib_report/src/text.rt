@@ -13,7 +13,7 @@ use mrt_frame::{Failed, ReplayError, Sink, write_full};
 const LONG: usize = 4096;
 
 /// Text to which pieces are added by way of a buffer.
-pub(crate) trait Text {
+pub trait Text {
     /// What is known of it.
     ghost state: { Self → TextState };
 

@@ -40,8 +40,8 @@ fn prefetch_rows<F: Unicast, L: RowList<F>>(rows: L, from: usize, to: usize) -> 
     next_rows(bytes)
 }
 
-/// Writes a line for each row.
-pub(crate) fn write_lines<F: Unicast, W: Sink, L: RowList<F>>(
+/// Writes a line for each row. If it returns `Write`, a leading part of the text has been written.
+pub fn write_lines<F: Unicast, W: Sink, L: RowList<F>>(
     out: &mut W,
     layout: &LayoutOf<F>,
     rows: L,

@@ -8,6 +8,7 @@ use Rattle.std.proofs.lemmas.List.Elements.{filter-append, All-filter}
 use Rattle.mrt_frame.specs.Cuts.{cuts}
 use Rattle.bgp_prefix.specs.Prefixes.{IpPrefix}
 use Rattle.bgp_update.specs.declared.width.Width.TheVariants.{Four}
+use Rattle.bgp_update.specs.ErrorRules.{is_handling}
 use Rattle.bgp_update.specs.Families.{Rules, by_entry_width, route_rules}
 use Rattle.peer_units.specs.declared.state_rule.StateRule.{StateRule}
 use Rattle.peer_units.specs.declared.state_rule.StateRule.TheVariants.{Recorded, Established}
@@ -33,12 +34,14 @@ use Rattle.mrt_writing.specs.Dumps.{DumpRecord, state, rib, update, index_record
 use Rattle.mrt_writing.proofs.DumpLaws.{dump_found}
 use Rattle.table_dumps.specs.Dumped.{is_as}
 use Rattle.table_dumps.specs.Checkpoints.{DumpedPeer, keys_of, record_split, checkpoint_records, Apart}
+use Rattle.table_dumps.specs.Fitting.{HaveMandatory}
 use Rattle.table_dumps.specs.Resuming.{LeaveAlike, forget}
 use Rattle.table_dumps.specs.Cutting.{dumped_peer, dumped_peers, latest_second, checkpoint_bytes, CanBeCut, resumed_units}
 use Rattle.table_dumps.proofs.AlikeLaws.{alike_other, alike_both, alike_same, alike_forgotten, own_forgotten, peers_but_places, been_listed, peers_go_on, none_own, peers_apart}
 use Rattle.table_dumps.proofs.FilesLaws.{units_taken, units_first, units_both, others_alike, later_units}
 use Rattle.table_dumps.proofs.FitLaws.{all_both, both_true, dump_fits}
 use Rattle.table_dumps.proofs.MergeLaws.{records_split}
+use Rattle.table_dumps.proofs.PeerUnits.{all_back}
 use Rattle.table_dumps.proofs.PeersLaws.{peers_again, table_again, state_again, has_been, all_listed}
 use Rattle.table_dumps.proofs.PlaceLaws.{units_back}
 use Rattle.table_dumps.proofs.ResumingLaws.{go_on_alike, down_has_none}
@@ -268,11 +271,12 @@ module _ (selection : UnitSelection) (files : List (List ℕ)) (h : CanBeCut sel
       let parts : peers ≡ front ++ f q ∷ back = ap (map f) s.parts ∙ map-append f s.front (q ∷ s.back) in
       let apart_parts : Apart (keys_of (front ++ f q ∷ back)) = subst (λ (ps : List DumpedPeer). Apart (keys_of ps)) parts apart in
       let fit_parts : Fit (front ++ f q ∷ back) = subst Fit parts fits.each in
+      let mandatory : is_handling rules.errors ≡ true → HaveMandatory rules.family (f q) = λ on. (all_back (HaveMandatory rules.family) front (f q ∷ back) (subst (AllByRecursion (HaveMandatory rules.family)) parts (h.taken on))).0 in
       alike_by rule (own q written) (own q first_units) (own_by q written written_by) (own_by q first_units (units_by selection files))
       (subst (λ (ps : List DumpedPeer). is_as rule (is_up (own q (units_for ps))) (is_established (own q (units_for ps))) ≡ (f q).up) (sym parts)
-      (state_again split (records_split rules.family) rules rule 0 start seconds front (f q) back apart_parts fit_parts sorted down))
+      (state_again split (records_split rules.family) rules rule 0 start seconds front (f q) back apart_parts fit_parts sorted down mandatory))
       (subst (λ (ps : List DumpedPeer). table_of (steps_of (own q (units_for ps))) ≡ (f q).table) (sym parts)
-      (table_again split (records_split rules.family) rules rule 0 start seconds front (f q) back apart_parts fit_parts sorted down))
+      (table_again split (records_split rules.family) rules rule 0 start seconds front (f q) back apart_parts fit_parts sorted down mandatory))
 
   own_alike : (q : PeerKey) → LeaveAlike (own q written) (own q first_units)
   own_alike q = by_been (has_been first_units q) refl

@@ -9,6 +9,7 @@ use Rattle.bgp_prefix.specs.Prefixes.{IpPrefix}
 use Rattle.bgp_prefix.specs.Keys.{RouteKey, key_cmp}
 use Rattle.bgp_update.specs.declared.route.Route.{Route}
 use Rattle.bgp_update.specs.declared.width.Width.TheVariants.{Four}
+use Rattle.bgp_update.specs.ErrorRules.{is_handling}
 use Rattle.bgp_update.specs.Families.{Rules, by_entry_width, route_rules}
 use Rattle.peer_units.specs.declared.state_rule.StateRule.{StateRule}
 use Rattle.peer_units.specs.declared.unit.PeerAddr.{PeerAddr}
@@ -26,6 +27,7 @@ use Rattle.mrt_writing.specs.Dumps.{DumpRecord, update, record_of, FitsDumpRecor
 use Rattle.mrt_writing.specs.Heads.{state_after}
 use Rattle.table_dumps.specs.Dumped.{DumpsTable}
 use Rattle.table_dumps.specs.Checkpoints.{DumpedPeer, others_in, PrefixPart, all_parts, Split, Splits, state_record, part_record, update_records, checkpoint_records, Tells, keys_of, Apart}
+use Rattle.table_dumps.specs.Fitting.{HaveMandatory}
 use Rattle.table_dumps.proofs.PeerUnits.{peer_units, units_both}
 use Rattle.table_dumps.proofs.DumpLaws.{table_left, state_left}
 use Rattle.table_dumps.specs.Dumped.{is_as}
@@ -109,18 +111,18 @@ module _ (split : Split) (whole : Splits split) (rules : Rules) (rule : StateRul
   abbrev Fit : List DumpedPeer → Type 0
   Fit peers = AllByRecursion (FitsDumpRecord (route_rules rules) seconds (keys_of peers)) (checkpoint_records split rules.family peers)
 
-  dumped : (front : List DumpedPeer) (p : DumpedPeer) (back : List DumpedPeer) → Apart (keys_of (front ++ p ∷ back)) → Fit (front ++ p ∷ back) → T (is_sorted key_cmp p.table) → (stays_up rule (state_after p.up) ≡ false → p.table ≡ [])
+  dumped : (front : List DumpedPeer) (p : DumpedPeer) (back : List DumpedPeer) → Apart (keys_of (front ++ p ∷ back)) → Fit (front ++ p ∷ back) → T (is_sorted key_cmp p.table) → (stays_up rule (state_after p.up) ≡ false → p.table ≡ []) → (is_handling rules.errors ≡ true → HaveMandatory rules.family p)
       → DumpsTable rules.family rule p.up p.table (units_of_peer (units_for (front ++ p ∷ back)) p.key)
-  dumped front p back apart fit sorted down =
-      peer_units rules rule file seconds (keys_of (front ++ p ∷ back)) (λ (k : PeerKey). peer_eq k p.key) split whole offset front p back (apart_front front p back apart) (peer_itself p.key) (apart_back front p back apart) (tells front p back apart) fit sorted down
+  dumped front p back apart fit sorted down mandatory =
+      peer_units rules rule file seconds (keys_of (front ++ p ∷ back)) (λ (k : PeerKey). peer_eq k p.key) split whole offset front p back (apart_front front p back apart) (peer_itself p.key) (apart_back front p back apart) (tells front p back apart) fit sorted down mandatory
 
-  pub table_again : (front : List DumpedPeer) (p : DumpedPeer) (back : List DumpedPeer) → Apart (keys_of (front ++ p ∷ back)) → Fit (front ++ p ∷ back) → T (is_sorted key_cmp p.table) → (stays_up rule (state_after p.up) ≡ false → p.table ≡ [])
+  pub table_again : (front : List DumpedPeer) (p : DumpedPeer) (back : List DumpedPeer) → Apart (keys_of (front ++ p ∷ back)) → Fit (front ++ p ∷ back) → T (is_sorted key_cmp p.table) → (stays_up rule (state_after p.up) ≡ false → p.table ≡ []) → (is_handling rules.errors ≡ true → HaveMandatory rules.family p)
       → table_of (steps_of (units_of_peer (units_for (front ++ p ∷ back)) p.key)) ≡ p.table
-  table_again front p back apart fit sorted down = table_left rules.family rule p.up p.table (units_of_peer (units_for (front ++ p ∷ back)) p.key) (dumped front p back apart fit sorted down)
+  table_again front p back apart fit sorted down mandatory = table_left rules.family rule p.up p.table (units_of_peer (units_for (front ++ p ∷ back)) p.key) (dumped front p back apart fit sorted down mandatory)
 
-  pub state_again : (front : List DumpedPeer) (p : DumpedPeer) (back : List DumpedPeer) → Apart (keys_of (front ++ p ∷ back)) → Fit (front ++ p ∷ back) → T (is_sorted key_cmp p.table) → (stays_up rule (state_after p.up) ≡ false → p.table ≡ [])
+  pub state_again : (front : List DumpedPeer) (p : DumpedPeer) (back : List DumpedPeer) → Apart (keys_of (front ++ p ∷ back)) → Fit (front ++ p ∷ back) → T (is_sorted key_cmp p.table) → (stays_up rule (state_after p.up) ≡ false → p.table ≡ []) → (is_handling rules.errors ≡ true → HaveMandatory rules.family p)
       → is_as rule (is_up (units_of_peer (units_for (front ++ p ∷ back)) p.key)) (is_established (units_of_peer (units_for (front ++ p ∷ back)) p.key)) ≡ p.up
-  state_again front p back apart fit sorted down = state_left rules.family rule p.up p.table (units_of_peer (units_for (front ++ p ∷ back)) p.key) (dumped front p back apart fit sorted down)
+  state_again front p back apart fit sorted down mandatory = state_left rules.family rule p.up p.table (units_of_peer (units_for (front ++ p ∷ back)) p.key) (dumped front p back apart fit sorted down mandatory)
 
 -- ---- the peers in their order
 

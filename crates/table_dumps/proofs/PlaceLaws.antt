@@ -9,12 +9,12 @@ use Rattle.mrt_frame.specs.declared.cut.Cut.TheVariants.{Whole, Broken}
 use Rattle.mrt_frame.specs.Fields.{◌>>=◌, Reading}
 use Rattle.mrt_frame.specs.Cuts.{cuts}
 use Rattle.bgp_prefix.specs.Prefixes.{IpPrefix}
-use Rattle.bgp_update.specs.Families.{Rules, by_entry_width}
+use Rattle.bgp_update.specs.Families.{Rules, by_entry_width, of_peer}
 use Rattle.bgp_update.specs.declared.width.Width.{Width}
 use Rattle.peer_units.specs.declared.rib_rule.RibRule.TheVariants.{Add}
 use Rattle.peer_units.specs.declared.state_rule.StateRule.{StateRule}
 use Rattle.peer_units.specs.declared.unit.PeerKey.{PeerKey}
-use Rattle.peer_units.specs.declared.unit.Payload.TheVariants.{State, Message}
+use Rattle.peer_units.specs.declared.unit.Payload.TheVariants.{Message}
 use Rattle.peer_units.specs.declared.unit.Found.TheVariants as found
 use Rattle.peer_units.specs.Plain.{Found, Unit as ReplayUnit}
 use Rattle.peer_units.specs.Choices.{UnitSelection}
@@ -22,7 +22,7 @@ use Rattle.peer_units.specs.Selections.{is_selected}
 use Rattle.mrt_body.specs.declared.record_place.RecordAt.{RecordAt}
 use Rattle.mrt_body.specs.declared.body_kind.BodyKind.{BodyKind}
 use Rattle.mrt_body.specs.declared.body_kind.BodyKind.TheVariants as content
-use Rattle.mrt_body.specs.Bgp4mp.{microseconds_at, session_peer_at, state_change_in}
+use Rattle.mrt_body.specs.Bgp4mp.{RecordedPeer, microseconds_at, session_peer_at, state_change_in}
 use Rattle.mrt_body.specs.KnownPeers.{told_peers}
 use Rattle.mrt_body.specs.OldEntries.{OldEntryForm, old_entry_in}
 use Rattle.mrt_body.specs.declared.bgp4mp.StateChange.{StateChange}
@@ -59,15 +59,15 @@ module _ (file other offset seconds : ℕ) where
   rib_alike rules None (Ok form) = refl
   rib_alike rules (Some peers) (Ok form) = ap (λ (units : List ReplayUnit). Ok units) (entries_alike rules peers (rib_prefix form) 1 form.entries)
 
-  abbrev message_of : RecordAt → Rules → Width → Bool → ℕ → Reading PeerKey → Result ReplayUnit Fault
-  message_of place rules width add_path microseconds read = read >>= λ peer. Ok (session_unit place microseconds peer.0 (Message peer.1 width add_path rules))
+  abbrev message_of : RecordAt → Rules → Width → Bool → ℕ → Reading RecordedPeer → Result ReplayUnit Fault
+  message_of place rules width add_path microseconds read = read >>= λ peer. Ok (session_unit place microseconds peer.0.key (Message peer.1 width add_path (of_peer peer.0.external rules)))
 
   message_alike : (rules : Rules) (width : Width) (add_path : Bool) (first : Reading ℕ)
       → forget_read ((first >>= λ m. message_of at rules width add_path m.0 (session_peer_at width m.1)) >>= λ unit. Ok (unit ∷ [])) ≡ forget_read ((first >>= λ m. message_of there rules width add_path m.0 (session_peer_at width m.1)) >>= λ unit. Ok (unit ∷ []))
   message_alike rules width add_path (Err fault) = refl
   message_alike rules width add_path (Ok m) = by_peer (session_peer_at width m.1)
     where
-      by_peer : (r : Reading PeerKey) → forget_read (message_of at rules width add_path m.0 r >>= λ unit. Ok (unit ∷ [])) ≡ forget_read (message_of there rules width add_path m.0 r >>= λ unit. Ok (unit ∷ []))
+      by_peer : (r : Reading RecordedPeer) → forget_read (message_of at rules width add_path m.0 r >>= λ unit. Ok (unit ∷ [])) ≡ forget_read (message_of there rules width add_path m.0 r >>= λ unit. Ok (unit ∷ []))
       by_peer (Err fault) = refl
       by_peer (Ok peer) = refl
 

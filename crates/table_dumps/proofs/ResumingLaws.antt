@@ -102,6 +102,7 @@ no_route up (Ok (event.State old new Recorded)) steps k down h =
     by_old true = route_at-push steps break k
     by_old false = route_at-push steps break k
 no_route up (Ok (event.Change u)) steps k down h = ap (λ (b : Bool). route_at (steps ++ reading_steps b (Ok (event.Change u))) k) down ∙ ap (λ (s : List Step). route_at s k) (append-nil steps) ∙ h down
+no_route up (Ok (event.Handled fault u)) steps k down h = ap (λ (b : Bool). route_at (steps ++ reading_steps b (Ok (event.Handled fault u))) k) down ∙ ap (λ (s : List Step). route_at s k) (append-nil steps) ∙ h down
 no_route up (Ok (event.Rib key r)) steps k down h = ap (λ (b : Bool). route_at (steps ++ reading_steps b (Ok (event.Rib key r))) k) down ∙ ap (λ (s : List Step). route_at s k) (append-nil steps) ∙ h down
 no_route up (Ok event.Other) steps k down h = ap (λ (s : List Step). route_at s k) (append-nil steps) ∙ h down
 no_route up (Ok event.Clear) steps k down h = route_at-push steps clear k

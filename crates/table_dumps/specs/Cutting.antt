@@ -1,7 +1,8 @@
 -- A replay that is cut between two files: what it had is written, and the replay goes on from that.
-use Rattle.std.specs.Prelude.{◌≡◌, ℕ, ◌-◌, ◌/◌, ◌^◌, ◌≤◌, min, max, List, [], ◌∷◌, map, length}
-use Rattle.std.specs.List.{fold}
+use Rattle.std.specs.Prelude.{◌≡◌, ℕ, ◌-◌, ◌/◌, ◌^◌, ◌≤◌, min, max, true, List, [], ◌∷◌, map, length}
+use Rattle.std.specs.List.{AllByRecursion, fold}
 use Rattle.mrt_frame.specs.Cuts.{file_limit}
+use Rattle.bgp_update.specs.ErrorRules.{is_handling}
 use Rattle.bgp_update.specs.Families.{route_rules}
 use Rattle.peer_units.specs.declared.state_peers.StatePeers.TheVariants.{Recorded}
 use Rattle.peer_units.specs.declared.rib_rule.RibRule.TheVariants.{Add}
@@ -17,7 +18,7 @@ use Rattle.mrt_writing.specs.Records.{records_bytes}
 use Rattle.mrt_writing.specs.Dumps.{dump_records}
 use Rattle.table_dumps.specs.Dumped.{is_as}
 use Rattle.table_dumps.specs.Checkpoints.{DumpedPeer, keys_of, record_split, checkpoint_records}
-use Rattle.table_dumps.specs.Fitting.{FitsTables}
+use Rattle.table_dumps.specs.Fitting.{FitsTables, HaveMandatory}
 
 -- a peer of these units, as it is behind them
 abbrev pub dumped_peer : StateRule → List ReplayUnit → PeerKey → DumpedPeer
@@ -47,11 +48,13 @@ pub record FitsCheckpoint (selection : UnitSelection) (units : List ReplayUnit) 
   pub bytes : length (checkpoint_bytes selection units) ≤ file_limit
 
 -- Behind these files a replay can be cut: RIB dumps are added, each state change is the recorded peer's, no prefix is
--- named, and no route is left out.
+-- named, damage is skipped or each route that is an UPDATE has ORIGIN and AS_PATH, and no route is left out.
 pub record CanBeCut (selection : UnitSelection) (files : List (List ℕ)) : Type 0 where
   pub added : selection.ribs ≡ Add
   pub recorded : selection.state_peers ≡ Recorded
   pub whole : selection.prefixes ≡ []
+  pub taken : is_handling selection.rules.errors ≡ true →
+      AllByRecursion (HaveMandatory selection.rules.family) (dumped_peers selection.states (units_of selection files))
   pub fits : FitsCheckpoint selection (units_of selection files)
 
 -- the units of the checkpoint of the first files, and of the others

@@ -1,15 +1,16 @@
 -- Which tables can be written, so that their dump is read as they are.
-use Rattle.std.specs.Prelude.{◌^◌, ◌<◌, ◌≤◌, Bool, true, false, List, length}
+use Rattle.std.specs.Prelude.{◌≡◌, ◌^◌, ◌<◌, ◌≤◌, Bool, true, false, List, length}
 use Rattle.std.specs.List.{AllByRecursion}
 use Rattle.bgp_prefix.specs.Prefixes.{IsIpPrefix}
 use Rattle.bgp_prefix.specs.Keys.{RouteKey}
 use Rattle.bgp_update.specs.declared.route.Route.{Route}
 use Rattle.bgp_update.specs.Families.{FamilyOf, RouteRules}
+use Rattle.bgp_update.specs.Handling.{lacks_mandatory}
 use Rattle.bgp_update.specs.Packing.{CanPack}
 use Rattle.mrt_writing.specs.Heads.{FitsPeerKey}
 use Rattle.mrt_writing.specs.RouteAttributes.{IsKeptBy, entry_most}
 use Rattle.mrt_writing.specs.RibRecords.{entry_field}
-use Rattle.mrt_writing.specs.Updates.{update_field, update_most}
+use Rattle.mrt_writing.specs.Updates.{reaching, update_field, update_most}
 use Rattle.mrt_writing.specs.Dumps.{HasRibKinds, has_identifier}
 use Rattle.table_dumps.specs.Dumped.{is_entry}
 use Rattle.table_dumps.specs.Checkpoints.{DumpedPeer, all_parts, record_split}
@@ -39,3 +40,11 @@ pub record FitsTables (rules : RouteRules) (peers : List DumpedPeer) : Type 0 wh
   pub few : length peers < 256 ^ 2
   pub each : AllByRecursion (FitsPeer rules) peers
   pub numbered : length (all_parts (record_split rules.family) rules.family peers) ≤ 256 ^ 4
+
+-- A route that is written as an UPDATE has ORIGIN and AS_PATH. Without them the UPDATE is taken as a withdrawal where
+-- damage is handled (RFC 7606, section 3 (d)).
+abbrev pub HasMandatory : FamilyOf → RouteKey × Route → Type 0
+HasMandatory family e = is_entry family e ≡ false → lacks_mandatory (reaching e.0 e.1) ≡ false
+
+abbrev pub HaveMandatory : FamilyOf → DumpedPeer → Type 0
+HaveMandatory family p = AllByRecursion (HasMandatory family) p.table

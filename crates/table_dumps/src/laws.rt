@@ -8,9 +8,10 @@ ghost use Rattle.peer_units.specs.declared.state_peers.StatePeers.TheVariants.{R
 ghost use Rattle.mrt_body.specs.RibDumps.{DumpsState};
 ghost use Rattle.mrt_body.specs.Units.{found_in_file, unit_of, units_of};
 ghost use Rattle.table_dumps.specs.Resuming.{forget};
-ghost use Rattle.std.specs.Prelude.{◌≡◌, ◌<◌, ◌^◌, ◌++◌, ◌∷◌, [], false, Bool, List, T, length, ℕ};
+ghost use Rattle.std.specs.Prelude.{◌≡◌, ◌<◌, ◌^◌, ◌++◌, ◌∷◌, [], false, true, Bool, List, T, length, ℕ};
 ghost use Rattle.bgp_prefix.specs.Keys.{RouteKey, key_cmp};
 ghost use Rattle.bgp_update.specs.declared.route.Route.{Route};
+ghost use Rattle.bgp_update.specs.ErrorRules.{is_handling};
 ghost use Rattle.bgp_update.specs.Families.{FamilyOf, RouteRules, Rules, route_rules};
 ghost use Rattle.peer_units.specs.declared.state_rule.StateRule.{StateRule};
 ghost use Rattle.peer_units.specs.Plain.{Unit as ReplayUnit};
@@ -26,7 +27,7 @@ ghost use Rattle.mrt_writing.specs.Dumps.{FitsDump, FitsDumpRecord, units_of_dum
 ghost use Rattle.mrt_writing.specs.RibRecords.{PrefixRoute};
 ghost use Rattle.table_dumps.specs.Checkpoints.{DumpedPeer, entries_in, all_parts, Split, Splits, record_split, entries_of_parts, Apart, keys_of, checkpoint_records};
 ghost use Rattle.table_dumps.specs.Cutting.{CanBeCut, resumed_units};
-ghost use Rattle.table_dumps.specs.Fitting.{FitsTables};
+ghost use Rattle.table_dumps.specs.Fitting.{FitsTables, HaveMandatory};
 ghost use Rattle.table_dumps.specs.Resuming.{LeaveAlike};
 ghost use Rattle.mrt_writing.specs.Heads.{state_after};
 ghost use Rattle.table_dumps.specs.Dumped.{DumpsTable, is_as};
@@ -58,7 +59,7 @@ pub fn records_have_each_entry()
 {}
 
 /// The peers of a checkpoint's units are its peers, in their order; and its units leave each of them up or not as it
-/// was, with the same table.
+/// was, with the same table. Where damage is handled, that is so of a peer whose routes have what an UPDATE must have.
 pub fn checkpoints_leave_each_table()
     ensures peers { (split : Split) (rules : Rules) (rule : StateRule)
         (file offset seconds : ℕ) (peers : List DumpedPeer) → Apart (keys_of peers) →
@@ -69,12 +70,14 @@ pub fn checkpoints_leave_each_table()
         Apart (keys_of (front ++ p ∷ back)) →
         AllByRecursion (FitsDumpRecord (route_rules rules) seconds (keys_of (front ++ p ∷ back))) (checkpoint_records split rules.family (front ++ p ∷ back)) →
         T (is_sorted key_cmp p.table) → (stays_up rule (state_after p.up) ≡ false → p.table ≡ []) →
+        (is_handling rules.errors ≡ true → HaveMandatory rules.family p) →
         table_of (steps_of (units_of_peer (units_of_dump file offset rules rule seconds (keys_of (front ++ p ∷ back)) (checkpoint_records split rules.family (front ++ p ∷ back))) p.key)) ≡ p.table }
     ensures up { (split : Split) → Splits split →
         (rules : Rules) (rule : StateRule) (file offset seconds : ℕ) (front : List DumpedPeer) (p : DumpedPeer) (back : List DumpedPeer) →
         Apart (keys_of (front ++ p ∷ back)) →
         AllByRecursion (FitsDumpRecord (route_rules rules) seconds (keys_of (front ++ p ∷ back))) (checkpoint_records split rules.family (front ++ p ∷ back)) →
         T (is_sorted key_cmp p.table) → (stays_up rule (state_after p.up) ≡ false → p.table ≡ []) →
+        (is_handling rules.errors ≡ true → HaveMandatory rules.family p) →
         is_as rule (is_up (units_of_peer (units_of_dump file offset rules rule seconds (keys_of (front ++ p ∷ back)) (checkpoint_records split rules.family (front ++ p ∷ back))) p.key))
         (is_established (units_of_peer (units_of_dump file offset rules rule seconds (keys_of (front ++ p ∷ back)) (checkpoint_records split rules.family (front ++ p ∷ back))) p.key)) ≡ p.up }
 {}
@@ -98,7 +101,7 @@ pub fn files_give_units_alike()
 /// A replay can be cut between two files: the units of the checkpoint of some files, and then of others, are of the
 /// same peers, in the same order, as those of all these files, and leave each of them up or not, established or not,
 /// and with the same table. So it is where RIB dumps are added, each state change is the recorded peer's and no prefix
-/// is named, if no route is left out.
+/// is named, if no route is left out; and where damage is handled, if none lacks what an UPDATE must have.
 pub fn replays_can_be_cut()
     ensures peers { (selection : UnitSelection) (files others : List (List ℕ)) → CanBeCut selection files →
         peers_of (resumed_units selection files others) ≡ peers_of (units_of selection (files ++ others)) }

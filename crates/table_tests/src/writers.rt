@@ -7,8 +7,7 @@ use mrt_frame::{Counted, Failures, ReplayError, Sink};
 use prefix_maps::Radix;
 use rib_report::{
     AddressForm, Layout, Tables, churn, faults, list_tables, matches, origins, peers, seen,
-    table_rows, visibility, write_churn, write_faults, write_origins, write_peers, write_rows,
-    write_seen, write_visibility,
+    table_rows, visibility, write_lines,
 };
 use std::alloc::Global;
 use std::io::{self, ErrorKind, Write};
@@ -97,23 +96,23 @@ fn write_report<M: PrefixMap<RouteId, Addr = u32> + Sync, T: Threads + Sync, W: 
     let layout = Layout::all(AddressForm::Full);
     match report {
         Report::Tables => list_tables(rt, alloc, threads, out, layout, tables),
-        Report::Rows => write_rows(out, layout, table_rows(alloc, tables)?.as_slice()),
+        Report::Rows => write_lines(out, &layout, table_rows(alloc, tables)?.as_slice()),
         Report::Visibility => {
             let rows = visibility(rt, alloc, threads, tables)?;
-            write_visibility(out, layout, rows.as_slice())
+            write_lines(out, &layout, rows.as_slice())
         }
         Report::Origins => {
             let rows = origins(rt, alloc, threads, tables)?;
-            write_origins(out, layout, rows.as_slice())
+            write_lines(out, &layout, rows.as_slice())
         }
         Report::Seen => {
             let rows = seen(rt, alloc, threads, tables)?;
-            write_seen(out, layout, rows.as_slice())
+            write_lines(out, &layout, rows.as_slice())
         }
-        Report::Churn => write_churn(out, layout, churn(alloc, tables)?.as_slice()),
-        Report::Peers => write_peers(out, layout, peers(alloc, tables)?.as_slice()),
-        Report::Match => write_rows(out, layout, matches(alloc, tables, 0)?.as_slice()),
-        Report::Faults => write_faults(out, layout, faults(alloc, tables)?.as_slice()),
+        Report::Churn => write_lines(out, &layout, churn(alloc, tables)?.as_slice()),
+        Report::Peers => write_lines(out, &layout, peers(alloc, tables)?.as_slice()),
+        Report::Match => write_lines(out, &layout, matches(alloc, tables, 0)?.as_slice()),
+        Report::Faults => write_lines(out, &layout, faults(alloc, tables)?.as_slice()),
     }
 }
 

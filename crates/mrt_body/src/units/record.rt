@@ -15,7 +15,8 @@ ghost use Rattle.mrt_body.specs.Readings.{GivesFew, WantsMemory, StaysHere};
 use super::{Units, kept_block};
 use crate::bgp4mp::{StateChange, state_change_in};
 use crate::body_kind::BodyKind;
-use crate::body_unit::{BodyUnit, block_of, lent};
+use crate::body_unit::{BodyUnit, block_of, bytes_of, lent};
+use crate::end_of_rib::{is_end_of_rib, longest_end_of_rib};
 use crate::known_peers::told_peers;
 use crate::old_entry::old_entry_unit;
 use crate::payload::message_unit;
@@ -63,6 +64,7 @@ impl<F: Unicast> Units<F> {
                     add_path,
                     body,
                 );
+                self.note_end_of_rib(&unit);
                 self.found(alloc, at, unit)
             }
             BodyKind::States { width } => self.take_states(alloc, at, is_extended, width, body),
@@ -102,13 +104,40 @@ impl<F: Unicast> Units<F> {
                 at,
                 change,
             ) {
-                Ok(()) => Ok(None),
+                Ok(()) => {
+                    self.remarker.see_states(&self.waiting);
+                    Ok(None)
+                }
                 Err(_) => {
                     self.state = ReadState::Spent;
                     Err(ReplayError::Memory)
                 }
             },
             Err(fault) => Ok(Some(refused(at, fault))),
+        }
+    }
+
+    /// Takes note of a message if it is an End-of-RIB marker.
+    #[inline(always)]
+    fn note_end_of_rib(&mut self, unit: &Result<BodyUnit<F>, Fault>)
+        ensures { self.new ≡ self.old }
+    {
+        if let Ok(unit) = unit {
+            if bytes_of(&unit.payload).len() <= longest_end_of_rib::<F>() {
+                self.note_short(unit);
+            }
+        }
+    }
+
+    /// Takes note of a message that is as short as an End-of-RIB marker, if it is one and is selected.
+    #[cold]
+    #[inline(never)]
+    fn note_short(&mut self, unit: &BodyUnit<F>)
+        ensures { self.new ≡ self.old }
+    {
+        let selects = !self.selection.is_past(unit.time) && self.selection.takes_peer(&unit.peer);
+        if selects && is_end_of_rib::<F>(bytes_of(&unit.payload)) {
+            self.remarker.see_end_of_rib(unit.peer);
         }
     }
 

@@ -2,22 +2,17 @@
 //! first and last unit.
 
 ghost use Rattle.std.specs.Prelude.{◌≡◌, IfOk, map};
-ghost use Rattle.std.specs.List.{flat_map};
 ghost use Rattle.peer_tables.specs.Watching.{watch_in};
 ghost use Rattle.rib_report.specs.Reports.{churn_rows, watch_churns};
-ghost use Rattle.rib_report.specs.Fields.{field, time_text};
 ghost use Rattle.rib_report.specs.Lines.{churn_line};
-ghost use Rattle.rib_report.specs.Texts.{IsOutput};
 
 use crate::cells::{columns, if_any, number, put_line};
 use crate::field::time_field;
 use crate::line::Line;
 use crate::text::Text;
-use crate::write::write_lines;
 use adj_rib::{Churn, RouteId};
 use bgp_prefix::{Memory, PrefixMap};
 use bgp_update::Unicast;
-use mrt_frame::{ReplayError, Sink};
 use peer_tables::{Tables, Watched};
 use peer_units::PeerKey;
 use report_request::{Key, LayoutOf};
@@ -84,16 +79,4 @@ impl<F: Unicast> Line<F> for ChurnRow {
         );
         put_line(text, layout.format, cells);
     }
-}
-
-/// Writes the rows of `churn`. If it returns `Write`, a leading part of the text has been written.
-pub fn write_churn<F: Unicast, W: Sink>(
-    out: &mut W,
-    layout: LayoutOf<F>,
-    rows: &[ChurnRow],
-) -> Result<(), ReplayError>
-    ensures { IsOutput (W.contents out.old) (W.failure_count out.old) (W.contents out.new) (W.failure_count out.new)
-        (flat_map (churn_line layout) rows.now) result }
-{
-    write_lines(out, &layout, rows)
 }

@@ -1,25 +1,21 @@
 //! The report `faults`: the records and units that are damaged. A line holds the place of one, by file, offset and
 //! entry, and the number and name of its fault.
 
-ghost use Rattle.std.specs.Prelude.{◌≡◌, ◌+◌, ◌++◌, IfOk, codes, decimal};
-ghost use Rattle.std.specs.List.{flat_map};
-ghost use Rattle.mrt_frame.specs.Faults.{fault_number, fault_name};
+ghost use Rattle.std.specs.Prelude.{◌≡◌, ◌+◌, ◌++◌, IfOk};
+ghost use Rattle.mrt_frame.specs.Faults.{fault_name};
 ghost use Rattle.peer_tables.specs.Tables.{all_faults};
 ghost use Rattle.rib_report.specs.Reports.{fault_rows};
-ghost use Rattle.rib_report.specs.Fields.{field};
 ghost use Rattle.rib_report.specs.Lines.{fault_line};
-ghost use Rattle.rib_report.specs.Texts.{IsOutput};
 
 use crate::cells::{columns, if_any, number, plain, put_line, word};
 use crate::field::{Byte, Field, Joined, entry_field};
 use crate::line::Line;
 use crate::text::Text;
-use crate::write::write_lines;
 use adj_rib::RouteId;
 use bgp_prefix::{Memory, PrefixMap};
 use bgp_update::Unicast;
 use ip_text::{DecimalTable, format_text};
-use mrt_frame::{Fault, ReplayError, Sink};
+use mrt_frame::Fault;
 use peer_tables::Tables;
 use peer_units::Damage;
 use report_request::{Key, LayoutOf};
@@ -57,10 +53,6 @@ impl Field for Fault {
 
     ghost longest = { 46 };
 
-    fn longest() -> usize {
-        46
-    }
-
     #[tactic(auto, using(ip_text::proofs::FormatLaws::Formats_trans))]
     fn format(self, bytes: &mut [u8], at: usize, shorts: &DecimalTable) -> usize {
         let at = format_text(bytes, at, self.name().as_bytes());
@@ -84,16 +76,4 @@ impl<F: Unicast> Line<F> for Damage {
         );
         put_line(text, layout.format, cells);
     }
-}
-
-/// Writes the rows of `faults`. If it returns `Write`, a leading part of the text has been written.
-pub fn write_faults<F: Unicast, W: Sink>(
-    out: &mut W,
-    layout: LayoutOf<F>,
-    rows: &[Damage],
-) -> Result<(), ReplayError>
-    ensures { IsOutput (W.contents out.old) (W.failure_count out.old) (W.contents out.new) (W.failure_count out.new)
-        (flat_map (fault_line layout) rows.now) result }
-{
-    write_lines(out, &layout, rows)
 }

@@ -1,14 +1,12 @@
 //! The report `history`: what happened to each key, in the order in which it did. A line holds the time, the peer, what
 //! happened, what brought it about, the key and its route.
 
-ghost use Rattle.std.specs.Prelude.{◌≡◌, codes};
-ghost use Rattle.std.specs.List.{flat_map};
+ghost use Rattle.std.specs.Prelude.{◌≡◌};
 ghost use Rattle.peer_tables.specs.Histories.{RowState, row_state};
 ghost use Rattle.rib_report.specs.HistoryLines.{by_text, event_cells, history_line, what_text};
-ghost use Rattle.rib_report.specs.LineParts.{line_front};
+ghost use Rattle.rib_report.specs.LineParts.{line_front, listed_behind};
 ghost use Rattle.report_request.specs.declared.format.Format.TheVariants.{Text, Json};
-ghost use Rattle.rib_report.specs.HistoryParts.{listed_behind};
-ghost use Rattle.rib_report.specs.Texts.{Adds, IsOutput};
+ghost use Rattle.rib_report.specs.Texts.{Adds};
 
 use crate::cells::{columns, plain, put_front, route_key, word};
 use crate::field::{Field, Microseconds};
@@ -17,12 +15,10 @@ use crate::kept_columns::put_line_end;
 use crate::line::{Line, RowList};
 use crate::route_line::put_text_route;
 use crate::text::Text;
-use crate::write::write_lines;
 use adj_rib::What;
 use bgp_prefix::Prefix;
 use bgp_update::{KeptValues, RouteRef, Unicast};
 use ip_text::{DecimalTable, WrittenAddress, format_text};
-use mrt_frame::{ReplayError, Sink};
 use peer_tables::{By, HistoryRow, HistoryRows};
 use report_request::{Format, Key, LayoutOf};
 
@@ -30,10 +26,6 @@ impl Field for What {
     ghost text_of = { what_text };
 
     ghost longest = { 7 };
-
-    fn longest() -> usize {
-        7
-    }
 
     fn format(self, bytes: &mut [u8], at: usize, _shorts: &DecimalTable) -> usize {
         match self {
@@ -51,10 +43,6 @@ impl Field for By {
     ghost text_of = { by_text };
 
     ghost longest = { 6 };
-
-    fn longest() -> usize {
-        6
-    }
 
     fn format(self, bytes: &mut [u8], at: usize, _shorts: &DecimalTable) -> usize {
         match self {
@@ -152,16 +140,4 @@ impl<F: WrittenAddress> RowList<F> for &HistoryRows<F> {
     fn put<T: Text>(self, at: usize, text: &mut T, layout: &LayoutOf<F>) {
         self.at(at).put(text, layout);
     }
-}
-
-/// Writes the rows of `history`. If it returns `Write`, a leading part of the text has been written.
-pub fn write_history<F: WrittenAddress, W: Sink>(
-    out: &mut W,
-    layout: LayoutOf<F>,
-    rows: &HistoryRows<F>,
-) -> Result<(), ReplayError>
-    ensures { IsOutput (W.contents out.old) (W.failure_count out.old) (W.contents out.new) (W.failure_count out.new)
-        (flat_map (history_line layout) rows.now.listed) result }
-{
-    write_lines(out, &layout, rows)
 }

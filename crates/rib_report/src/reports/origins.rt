@@ -1,12 +1,10 @@
 //! The report `origins`: the prefixes whose routes have two or more origin ASes. A line holds a prefix and these ASes.
 
 ghost use Rattle.std.specs.Prelude.{◌≡◌, ◌≢◌, ◌<◌, ◌≤◌, ◌++◌, [], ◌∷◌, IfOk, OnOk, map, length};
-ghost use Rattle.std.specs.List.{AllWithin, HoldsAt, filter, filter_map, flat_map};
+ghost use Rattle.std.specs.List.{AllWithin, HoldsAt, filter, filter_map};
 ghost use Rattle.std.specs.List.Sorted.{IsStrictlySortedBy};
-ghost use Rattle.rib_report.specs.Runs.{pair_cmp};
-ghost use Rattle.rib_report.specs.Reports.{route_origin, origin_pair, seat_origins, origins_in_order, has_several, grouped_origins, origin_rows};
+ghost use Rattle.rib_report.specs.Reports.{route_origin, origin_pair, seat_origins, origins_in_order, has_several, grouped_origins, origin_rows, pair_cmp};
 ghost use Rattle.rib_report.specs.Lines.{origin_line};
-ghost use Rattle.rib_report.specs.Texts.{IsOutput};
 ghost use Rattle.peer_tables.specs.Seats.{seat_of};
 
 use crate::buffer::put;
@@ -16,12 +14,10 @@ use crate::line::Line;
 use crate::merge::{Listed, Mergeable, list_peers};
 use crate::numbers::put_numbers;
 use crate::text::Text;
-use crate::write::write_lines;
 use adj_rib::RouteId;
 use bgp_prefix::{Family, Memory, Prefix, PrefixMap, RouteKey, Sequence};
 use bgp_update::{RouteRef, Unicast};
 use ip_text::WrittenAddress;
-use mrt_frame::{ReplayError, Sink};
 use peer_tables::{Seated, Tables};
 use report_request::{Format, LayoutOf};
 use std::alloc::Global;
@@ -55,18 +51,6 @@ impl<F: WrittenAddress> Line<F> for OriginRow<Prefix<F>> {
             }
         }
     }
-}
-
-/// Writes the rows of `origins`. If it returns `Write`, a leading part of the text has been written.
-pub fn write_origins<F: WrittenAddress, W: Sink>(
-    out: &mut W,
-    layout: LayoutOf<F>,
-    rows: &[OriginRow<Prefix<F>>],
-) -> Result<(), ReplayError>
-    ensures { IsOutput (W.contents out.old) (W.failure_count out.old) (W.contents out.new) (W.failure_count out.new)
-        (flat_map (origin_line layout) rows.now) result }
-{
-    write_lines(out, &layout, rows)
 }
 
 /// Pairs are merged by prefix and number. A pair of both lists is once.

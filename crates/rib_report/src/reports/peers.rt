@@ -3,22 +3,17 @@
 //! places, so the lines of several runs on different peers can be put in the order of one run.
 
 ghost use Rattle.std.specs.Prelude.{◌≡◌, IfOk};
-ghost use Rattle.std.specs.List.{flat_map};
 ghost use Rattle.peer_tables.specs.Seats.{seat_of};
 ghost use Rattle.rib_report.specs.Reports.{peer_row, peer_rows};
-ghost use Rattle.rib_report.specs.Fields.{field, time_text};
-ghost use Rattle.rib_report.specs.Lines.{entry_of, file_of, offset_of, peer_line, state_text};
-ghost use Rattle.rib_report.specs.Texts.{IsOutput};
+ghost use Rattle.rib_report.specs.Lines.{entry_of, file_of, offset_of, peer_line};
 
 use crate::cells::{columns, if_any, number, put_line, word};
 use crate::field::{SessionUp, entry_field, time_field};
 use crate::line::Line;
 use crate::text::Text;
-use crate::write::write_lines;
 use adj_rib::RouteId;
 use bgp_prefix::{Memory, PrefixMap};
 use bgp_update::Unicast;
-use mrt_frame::{ReplayError, Sink};
 use peer_tables::{Seated, Tables};
 use peer_units::{PeerKey, Place};
 use report_request::{Key, LayoutOf};
@@ -111,16 +106,4 @@ impl<F: Unicast> Line<F> for PeerRow {
         );
         put_line(text, layout.format, cells);
     }
-}
-
-/// Writes the rows of `peers`. If it returns `Write`, a leading part of the text has been written.
-pub fn write_peers<F: Unicast, W: Sink>(
-    out: &mut W,
-    layout: LayoutOf<F>,
-    rows: &[PeerRow],
-) -> Result<(), ReplayError>
-    ensures { IsOutput (W.contents out.old) (W.failure_count out.old) (W.contents out.new) (W.failure_count out.new)
-        (flat_map (peer_line layout) rows.now) result }
-{
-    write_lines(out, &layout, rows)
 }

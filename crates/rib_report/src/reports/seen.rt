@@ -1,26 +1,21 @@
 //! The report `seen`: the prefixes that are in any table, and the origin ASes of their routes. A line holds a prefix,
 //! an origin AS, and the number of peers that have a route of the prefix with that origin AS.
 
-ghost use Rattle.std.specs.Prelude.{◌≡◌, IfOk, OnOk, ◌++◌, map};
-ghost use Rattle.std.specs.List.{flat_map};
+ghost use Rattle.std.specs.Prelude.{◌≡◌, IfOk, ◌++◌, map};
 ghost use Rattle.bgp_prefix.specs.Ordered.{in_order};
 ghost use Rattle.rib_report.specs.Merges.{by_key, counted_both};
-ghost use Rattle.rib_report.specs.Reports.{origin_cmp, prefix_origin_cmp, prefix_origin, seat_prefix_origins, seen_among, seen_rows};
-ghost use Rattle.rib_report.specs.Fields.{field};
+ghost use Rattle.rib_report.specs.Reports.{origin_cmp, prefix_origin_cmp, seat_prefix_origins, seen_among, seen_rows};
 ghost use Rattle.rib_report.specs.Lines.{seen_line};
-ghost use Rattle.rib_report.specs.Texts.{IsOutput};
 ghost use Rattle.peer_tables.specs.Seats.{seat_of};
 
 use crate::cells::{columns, if_any, number, prefix, put_line};
 use crate::line::Line;
-use crate::merge::{Listed, Mergeable, list_peers};
+use crate::merge::{Listed, Mergeable, count_once, list_peers};
 use crate::text::Text;
-use crate::write::write_lines;
 use adj_rib::RouteId;
 use bgp_prefix::{Family, Memory, Prefix, PrefixMap};
 use bgp_update::Unicast;
 use ip_text::WrittenAddress;
-use mrt_frame::{ReplayError, Sink};
 use peer_tables::{Seated, Tables};
 use report_request::{Key, LayoutOf};
 use std::alloc::Global;
@@ -47,18 +42,6 @@ impl<F: WrittenAddress> Line<F> for SeenRow<Prefix<F>> {
         );
         put_line(text, layout.format, cells);
     }
-}
-
-/// Writes the rows of `seen`. If it returns `Write`, a leading part of the text has been written.
-pub fn write_seen<F: WrittenAddress, W: Sink>(
-    out: &mut W,
-    layout: LayoutOf<F>,
-    rows: &[SeenRow<Prefix<F>>],
-) -> Result<(), ReplayError>
-    ensures { IsOutput (W.contents out.old) (W.failure_count out.old) (W.contents out.new) (W.failure_count out.new)
-        (flat_map (seen_line layout) rows.now) result }
-{
-    write_lines(out, &layout, rows)
 }
 
 /// The prefix and the origin AS of a route, which may have none (RFC 6811, 2).
@@ -129,16 +112,6 @@ fn pairs_of_seat<F: Unicast, M: PrefixMap<RouteId, Addr = F>>(
     pairs.sort_by(compare_pairs)?;
     pairs.dedup();
     Ok(pairs)
-}
-
-/// Gives each a count of 1.
-fn count_once<F: Family>(
-    alloc: Global,
-    pairs: &[PrefixOrigin<F>],
-) -> Result<Vec<(PrefixOrigin<F>, usize)>, Memory>
-    ensures { IfOk result (λ counts. counts.items ≡ map (λ e. (e, 1)) pairs.now) }
-{
-    Ok(pairs.iter().map(|pair| (*pair, 1)).collect(alloc)?)
 }
 
 /// What is listed of peers: the prefixes and origin ASes of their routes in order, each pair with the number of peers

@@ -4,7 +4,7 @@
 mod line_block;
 mod parallel;
 
-ghost use Rattle.std.specs.Prelude.{◌≡◌, ◌<◌, ◌≤◌, ◌⊎◌, ◌++◌, IfOk, IfErr, OnOk, OnErr, Err, length, map, vec_capacity};
+ghost use Rattle.std.specs.Prelude.{◌≡◌, ◌<◌, ◌≤◌, ◌⊎◌, ◌++◌, IfOk, IfErr, OnOk, OnErr, Err, map, vec_capacity};
 ghost use Rattle.std.specs.List.{flat_map};
 ghost use Rattle.std.specs.Io.KnownBytes.{Appends};
 ghost use Rattle.mrt_frame.specs.Devices.{HasFailed};
@@ -15,14 +15,14 @@ ghost use Rattle.rib_report.specs.Rows.{table_row};
 ghost use Rattle.rib_report.specs.Reports.{rows_of_seat, route_rows};
 ghost use Rattle.rib_report.specs.Listings.{reached_lines, seat_lines, most_entries};
 ghost use Rattle.rib_report.specs.Lines.{route_line};
-ghost use Rattle.rib_report.specs.Texts.{Adds, IsOutput};
+ghost use Rattle.rib_report.specs.Texts.{Adds};
 
 use crate::buffer::TextBuffer;
 use crate::field::{PeerText, ShownPeer, ShownPeerOf};
 use crate::line::Line;
 use crate::route_line::{AsJson, AsText, RowFormat, put_row};
 use crate::text::{Text, TextWriter, finish};
-use crate::write::{NEAR_ROWS, next_rows, write_lines};
+use crate::write::{NEAR_ROWS, next_rows};
 use adj_rib::RouteId;
 use bgp_prefix::{Family, Memory, Prefix, PrefixMap, RouteKey};
 use bgp_update::{RouteRef, Unicast};
@@ -183,7 +183,7 @@ fn put_tables<
     }
 }
 
-/// Writes what `write_rows` writes of `table_rows`, without a list of all rows. The lines of large tables are made in
+/// Writes the lines of `table_rows`, without a list of all rows. The lines of large tables are made in
 /// up to as many threads as are asked for, while the calling thread writes those before. All memory is allocated
 /// before anything is written: if it returns `Memory`, nothing has been written. If it returns `Write`, a leading
 /// part of the text has been written.
@@ -251,17 +251,4 @@ impl<F: WrittenAddress> Line<F> for TableRow<'_, Prefix<F>> {
         let peer_text = text.buffer().peer_text(&peer);
         put_row(text, &peer_text, &self.key, &self.route);
     }
-}
-
-/// Writes the rows of `table_rows` or `matches`. If it returns `Write`, a leading part of the text has been
-/// written.
-pub fn write_rows<F: WrittenAddress, W: Sink>(
-    out: &mut W,
-    layout: LayoutOf<F>,
-    rows: &[TableRow<'_, Prefix<F>>],
-) -> Result<(), ReplayError>
-    ensures { IsOutput (W.contents out.old) (W.failure_count out.old) (W.contents out.new) (W.failure_count out.new)
-        (flat_map (λ row. route_line layout (table_row row)) rows.now) result }
-{
-    write_lines(out, &layout, rows)
 }

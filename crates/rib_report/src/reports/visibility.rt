@@ -2,25 +2,22 @@
 //! it is visible.
 
 ghost use Rattle.std.specs.Prelude.{◌≡◌, IfOk, map};
-ghost use Rattle.std.specs.List.{flat_map};
+ghost use Rattle.std.specs.FinMap as finite;
+ghost use Rattle.bgp_prefix.specs.Ordered.{in_order};
 ghost use Rattle.bgp_prefix.specs.Prefixes.{prefix_cmp};
 ghost use Rattle.peer_tables.specs.Seats.{seat_of};
 ghost use Rattle.rib_report.specs.Merges.{by_key, counted_both};
-ghost use Rattle.rib_report.specs.Runs.{is_last};
-ghost use Rattle.rib_report.specs.Reports.{visible_among, visibility_rows};
+ghost use Rattle.rib_report.specs.Reports.{seat_prefixes, visible_among, visibility_rows};
 ghost use Rattle.rib_report.specs.Lines.{visibility_line};
-ghost use Rattle.rib_report.specs.Texts.{IsOutput};
 
 use crate::cells::{columns, number, prefix, put_line};
 use crate::line::Line;
-use crate::merge::{Listed, Mergeable, list_peers};
+use crate::merge::{Listed, Mergeable, count_once, list_peers};
 use crate::text::Text;
-use crate::write::write_lines;
-use adj_rib::RouteId;
+use adj_rib::{RouteId, RouteTable};
 use bgp_prefix::{Family, Memory, Prefix, PrefixMap};
 use bgp_update::Unicast;
 use ip_text::WrittenAddress;
-use mrt_frame::{ReplayError, Sink};
 use peer_tables::{Seated, Tables};
 use report_request::{Key, LayoutOf};
 use std::alloc::Global;
@@ -47,18 +44,6 @@ impl<F: WrittenAddress> Line<F> for VisibilityRow<Prefix<F>> {
     }
 }
 
-/// Writes the rows of `visibility`. If it returns `Write`, a leading part of the text has been written.
-pub fn write_visibility<F: WrittenAddress, W: Sink>(
-    out: &mut W,
-    layout: LayoutOf<F>,
-    rows: &[VisibilityRow<Prefix<F>>],
-) -> Result<(), ReplayError>
-    ensures { IsOutput (W.contents out.old) (W.failure_count out.old) (W.contents out.new) (W.failure_count out.new)
-        (flat_map (visibility_line layout) rows.now) result }
-{
-    write_lines(out, &layout, rows)
-}
-
 /// Prefixes with counts are merged by prefix. Counts are added, and saturate.
 impl<F: Family> Mergeable for (Prefix<F>, usize) {
     ghost order = { by_key prefix_cmp };
@@ -76,14 +61,28 @@ impl<F: Family> Mergeable for (Prefix<F>, usize) {
     }
 }
 
-/// Whether the prefix is the last one.
-fn is_repeat<F: Family>(last: Option<Prefix<F>>, prefix: &Prefix<F>) -> bool
-    ensures { result ≡ is_last last prefix.now }
+/// Returns the prefix of each entry of a table.
+fn prefixes_of_table<F: Unicast, M: PrefixMap<RouteId, Addr = F>>(
+    alloc: Global,
+    table: &RouteTable<M>,
+) -> Result<Vec<Prefix<F>>, Memory>
+    ensures { IfOk result (λ prefixes. prefixes.items ≡ map (λ e. e.0.prefix) (finite.entries table.now)) }
 {
-    match last {
-        Some(last) => last == *prefix,
-        None => false,
-    }
+    let entries = table.entries(alloc)?;
+    let prefixes = entries.iter().map(|entry| entry.0.prefix);
+    Ok(prefixes.collect(alloc)?)
+}
+
+/// Returns the prefixes of one peer's table in order, each once, whatever its path identifiers.
+fn prefixes_of_seat<F: Unicast, M: PrefixMap<RouteId, Addr = F>>(
+    alloc: Global,
+    seat: &Seated<M>,
+) -> Result<Vec<Prefix<F>>, Memory>
+    ensures { IfOk result (λ prefixes. prefixes.items ≡ in_order prefix_cmp (seat_prefixes (seat_of seat.now))) }
+{
+    let mut prefixes = prefixes_of_table(alloc, seat.session.table())?;
+    prefixes.dedup();
+    Ok(prefixes)
 }
 
 /// What is listed of peers: the prefixes of their tables in order, each with the number of peers at which it is
@@ -93,19 +92,9 @@ impl<F: Unicast, M: PrefixMap<RouteId, Addr = F>> Listed<Seated<M>> for (Prefix<
 
     ghost list_of = { visible_among };
 
-    /// Each prefix once and with a count of 1, whatever its path identifiers.
     fn list_of_seat(alloc: Global, seat: &Seated<M>) -> Result<Vec<(Prefix<F>, usize)>, Memory> {
-        let entries = seat.session.table().entries(alloc)?;
-        let mut counts = Vec::with_capacity(alloc, entries.len())?;
-        let mut last = None;
-        for entry in entries.as_slice() {
-            let prefix = entry.0.prefix;
-            if !is_repeat(last, &prefix) {
-                counts.push((prefix, 1))?;
-            }
-            last = Some(prefix);
-        }
-        Ok(counts)
+        let prefixes = prefixes_of_seat(alloc, seat)?;
+        count_once(alloc, prefixes.as_slice())
     }
 
     fn lists_merge() {}

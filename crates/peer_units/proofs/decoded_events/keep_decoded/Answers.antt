@@ -1,6 +1,7 @@
 use Rattle.std.proofs.Common.{rules, ◌≡◌, subst}
 use Rattle.std.proofs.lemmas.Result.{on_ok_weaker}
 use Rattle.bgp_update.specs.Values.{plain_rules}
+use Rattle.bgp_update.specs.declared.error_rule.ErrorRule.TheVariants.{Skip}
 use Rattle.bgp_update.specs.declared.width.Width.TheVariants.{Four}
 use Rattle.peer_units.specs.DecodedEvents.{IsOneMore, event_at}
 use Rattle.peer_units.specs.Events.{entry_event_in, event_in}
@@ -19,6 +20,6 @@ pub returns-else-not-is_plain-2-clause-kept : goal.returns-else-not-is_plain-2-c
 unfolding event_in
 returns-else-not-is_plain-2-clause-kept g c =
     let keys = c.args.keys.now.items in
-    let own : entry_event_in (plain_rules g.F.Unicast.family) Four c.in-Entry.key c.as_slice.result.now ≡ event_in c.args.payload.now = search rules in
+    let own : entry_event_in Skip (plain_rules g.F.Unicast.family) Four c.in-Entry.key c.as_slice.result.now ≡ event_in c.args.payload.now = search rules in
     on_ok_weaker c.keep_entry.result (λ kept. subst (IsOneMore keys c.args.bytes.now.items c.args.events.now.items keys c.keep_entry.new.bytes.items c.keep_entry.new.events.items) own (kept keys))
     c.keep_entry.ensures.kept

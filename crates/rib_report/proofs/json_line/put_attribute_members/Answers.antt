@@ -6,4 +6,4 @@ pub returns : goal.returns
 returns g c =
     let route = c.args.route.now in
     Adds_as (attributes_in_json c.args.layout route)
-    (rw (c.next_hop.ensures, c.quoted_if_any-value.ensures, c.origin.ensures, c.med-value.ensures, c.local_pref-value.ensures, c.atomic.ensures, c.aggregator-aggregator.ensures) at c.put.ensures)
+    (rw (c.next_hop.ensures, c.quoted_if_any-value-2.ensures, c.origin.ensures, c.med-value.ensures, c.local_pref-value.ensures, c.atomic.ensures, c.asn_field-value.ensures, c.quoted_if_any-value.ensures, c.addr_field.ensures, c.aggregator-aggregator.ensures) at c.put.ensures)

@@ -1,12 +1,12 @@
 //! The lines of some successive entries of one peer, which a thread makes while another one writes.
 
-ghost use Rattle.std.specs.Prelude.{◌≡◌, ◌<◌, ◌≤◌, ℕ, length, take};
+ghost use Rattle.std.specs.Prelude.{◌≡◌, ◌<◌, ◌≤◌, length, take};
 ghost use Rattle.rib_report.specs.Texts.{Adds};
 ghost use Rattle.rib_report.specs.Listings.{reached_lines};
 ghost use Rattle.rib_report.specs.LineBlocks.{IsFilled, lines_between, range_of};
 
 use super::{prefetch_entries, put_entries};
-use crate::buffer::TextBuffer;
+use crate::buffer::{PIECE_BYTES, TextBuffer};
 use crate::field::{PeerText, ShownPeerOf};
 use crate::route_line::{AsJson, AsText, RowFormat};
 use crate::text::{Text, TextAhead};
@@ -16,8 +16,9 @@ use bgp_update::RouteRef;
 use ip_text::WrittenAddress;
 use report_request::Format;
 
-/// The most bytes of a line in either format without the numbers of its path, and some more.
-const MOST_WITHOUT_PATH: usize = 640;
+/// The most bytes of a line in either format without the numbers of its path, and the room that its last piece asks
+/// for.
+const MOST_WITHOUT_PATH: usize = 640 + PIECE_BYTES;
 
 /// Lines of successive entries.
 #[derive(Drop)]

@@ -2,8 +2,7 @@ use Rattle.std.proofs.Common.{◌≡◌, ℕ, List, [], ◌∷◌, ◌++◌, ◌
 use Rattle.std.specs.List.Sorted.{IsStrictlySortedBy}
 use Rattle.bgp_prefix.specs.Prefixes.{IpPrefix}
 use Rattle.rib_report.specs.Plain.{OriginRow}
-use Rattle.rib_report.specs.Runs.{pair_cmp}
-use Rattle.rib_report.specs.Reports.{grouped_origins}
+use Rattle.rib_report.specs.Reports.{grouped_origins, pair_cmp}
 use Rattle.rib_report.proofs.OriginLaws.{first_group, several_run, single_run}
 use Rattle.rib_report.proofs.reports.origins.group_runs.Goals as goal
 

@@ -2,8 +2,7 @@
 use Rattle.std.proofs.Common.{◌≡◌, ◌++◌, length}
 use Rattle.std.specs.List.{filter}
 use Rattle.std.specs.List.Sorted.{IsStrictlySortedBy}
-use Rattle.rib_report.specs.Runs.{pair_cmp}
-use Rattle.rib_report.specs.Reports.{has_several, grouped_origins}
+use Rattle.rib_report.specs.Reports.{has_several, grouped_origins, pair_cmp}
 use Rattle.rib_report.proofs.reports.origins.group_runs.Given as goal
 
 abbrev pub invariant-loop-rest : goal.invariant-loop-rest

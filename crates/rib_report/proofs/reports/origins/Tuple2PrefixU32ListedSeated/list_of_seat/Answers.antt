@@ -3,8 +3,7 @@ use Rattle.std.specs.List.{dedup}
 use Rattle.std.proofs.lemmas.List.Filters.{dedup_is}
 use Rattle.bgp_prefix.specs.Ordered.{in_order}
 use Rattle.peer_tables.specs.Seats.{seat_of}
-use Rattle.rib_report.specs.Runs.{pair_cmp, pair_eq}
-use Rattle.rib_report.specs.Reports.{seat_origins}
+use Rattle.rib_report.specs.Reports.{seat_origins, pair_cmp, pair_eq}
 use Rattle.rib_report.proofs.OriginLaws.{deduped_pairs}
 use Rattle.rib_report.proofs.reports.origins.Tuple2PrefixU32ListedSeated.list_of_seat.Goals as goal
 
