@@ -145,7 +145,9 @@ impl Churn {
         ensures { self.new ≡ (if is_recorded then timed time self.old else self.old) }
     {
         if is_recorded {
-            self.first = Some(self.first.unwrap_or(time));
+            if self.first.is_none() {
+                self.first = Some(time);
+            }
             self.last = Some(time);
         }
     }
