@@ -96,7 +96,7 @@ RECORD_FIELD = re.compile(r"^\s+pub (\w+) :", re.M)
 LABEL = re.compile(r"\b(?:ensures|requires|ghost)\s+(\w+)")
 CLAUSE = re.compile(r"\bensures\s+(\w+)\s+\{(.*?)\}\s*(?=ensures|requires|\{|;|\n\n)", re.S)
 TEXT = re.compile(r'"((?:[^"\\]|\\.)*)"')
-PRINTING = re.compile(r"crates/(command_line|report_request|replay_io|bgp_replay|rib_report|packed_io|mrt_replay)/src/")
+PRINTING = re.compile(r"crates/(command_line|report_request|replay_io|bgp_replay|report_lines|rib_report|packed_io|mrt_replay)/src/")
 PYTHON_NAME = re.compile(r"\b(?:def|class) (%s)|\b(%s)(?=[:=]| = )|[\"'](%s)[\"']" % (NAME, NAME, NAME))
 
 

@@ -1,11 +1,11 @@
 -- Keys of peers' tables, each with the number of peers that have it.
 use Rattle.std.proofs.Common.{◌≡◌, ℕ, ◌+◌, ◌<◌, ◌≤◌, ◌^◌, Bool, true, false, cond, ◌||◌, List, [], ◌∷◌, ◌++◌, Some, None, refl, sym, ap, ◌∙◌, subst, map, length, T, arith, append-nil, add-zero}
-use Rattle.std.specs.Prelude.{IsTrue, not, ◌↔◌}
+use Rattle.std.specs.Prelude.{IsTrue, ◌↔◌}
 use Rattle.std.specs.declared.cmp.Ordering.{Ordering}
 use Rattle.std.specs.declared.cmp.Ordering.TheVariants.{Equal}
 use Rattle.std.specs.Ordering.{eq_by_cmp}
 use Rattle.std.specs.Cmp.{IsTotalOrder}
-use Rattle.std.specs.List.{flat_map, filter, count_by, list_any}
+use Rattle.std.specs.List.{flat_map, count_by, list_any}
 use Rattle.std.specs.FinMap.Entries.{find, is_sorted, same_entries}
 use Rattle.std.proofs.lemmas.Bool.{false≢true, or_parts}
 use Rattle.std.proofs.lemmas.Grind.{flat_map-append}
@@ -138,18 +138,3 @@ module _ {K S : Type 0} {cmp : K → K → Ordering} (o : IsTotalOrder cmp) (exa
 
   pub entries_sorted : (seats : List S) (es : List (K × ℕ)) → es ≡ counted_among seats → IsTrue (is_sorted cmp es)
   entries_sorted seats es are = subst (λ l. IsTrue (is_sorted cmp l)) (sym (are ∙ among_tally seats)) (true_of _ (is_sorted-tabulated o (λ k. Some (count_in seats k)) (flat_map keys seats)))
-
--- ---- shares
-
--- of those that pass a test, some are in a share and the others are not
-pub count_of_shares : {X : Type 0} (p is_in : X → Bool) (xs : List X) → count_by p (filter is_in xs) + count_by p (filter (λ x. not (is_in x)) xs) ≡ count_by p xs
-count_of_shares p is_in [] = refl
-count_of_shares p is_in (x ∷ xs) =
-    let first = filter is_in xs in
-    let others = filter (λ y. not (is_in y)) xs in
-    let later = count_of_shares p is_in xs in
-    let one = sum_by-cons (λ y. cond (p y) 1 0) in
-    elim (is_in x) as (λ b. count_by p (cond b (x ∷ first) first) + count_by p (cond (not b) (x ∷ others) others) ≡ count_by p (x ∷ xs)) [
-      | true ↦ omega (arith, one x first, one x xs, later)
-      | false ↦ omega (arith, one x others, one x xs, later)
-    ]

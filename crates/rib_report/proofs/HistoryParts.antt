@@ -4,11 +4,11 @@ use Rattle.bgp_update.specs.declared.route.Route.{Route}
 use Rattle.report_request.specs.declared.format.Format.{Format}
 use Rattle.report_request.specs.Plain.{Layout}
 use Rattle.peer_tables.specs.Histories.{RowState}
-use Rattle.rib_report.specs.Cells.{Cell, all_members, line_by, texts}
-use Rattle.rib_report.specs.HistoryLines.{event_cells, listed_cells, no_route}
-use Rattle.rib_report.specs.Lines.{attribute_cells, path_cell}
-use Rattle.rib_report.specs.LineParts.{line_front, listed_behind}
-use Rattle.rib_report.proofs.RowLines.{line_in_parts}
+use Rattle.report_lines.specs.Cells.{Cell, all_members, line_by, texts}
+use Rattle.rib_report.specs.HistoryLines.{event_cells}
+use Rattle.report_lines.specs.RouteLines.{listed_cells, no_route, attribute_cells, path_cell}
+use Rattle.report_lines.specs.LineParts.{line_front, listed_behind}
+use Rattle.report_lines.proofs.RowLines.{line_in_parts}
 
 cells_in_parts : (format : Format) (layout : Layout) (cells : List Cell) (route : Option Route) (t m : List ℕ) (ts ms : List (List ℕ))
     → texts cells ≡ t ∷ ts → all_members cells ≡ m ∷ ms

@@ -1,11 +1,5 @@
-pub mod TextLaws
-pub mod JoinLaws
-pub mod RowLines
 pub mod HistoryParts
-pub mod KeptColumns
-pub mod JsonLaws
-pub mod ValueLaws
-pub mod PlainTexts
+pub mod OriginParts
 pub mod LineBlockLaws
 pub mod LineBlockLists
 pub mod RunLaws
@@ -15,11 +9,7 @@ pub mod MergeLaws
 pub mod OrderLaws
 pub mod HalvesLaws
 pub mod CountLaws
-pub mod ShareLaws
 pub mod VisibilityLaws
 pub mod OriginLaws
 pub mod SeenLaws
 pub mod MatchLaws
-pub mod UnitReportLaws
-pub mod ChoiceLaws
-pub mod DefinedLaws

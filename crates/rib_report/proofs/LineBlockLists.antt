@@ -9,15 +9,15 @@ use Rattle.std.specs.List.{between, flat_map, All}
 use Rattle.std.specs.Io.KnownBytes.{Appends}
 use Rattle.bgp_prefix.specs.Keys.{RouteKey}
 use Rattle.bgp_update.specs.declared.route.Route.{Route}
-use Rattle.rib_report.specs.Plain.{ShownPeer}
+use Rattle.report_lines.specs.Plain.{ShownPeer}
 use Rattle.rib_report.specs.declared.reports.tables.line_block.LineBlock.{LineBlock}
 use Rattle.rib_report.specs.Lines.{route_line}
-use Rattle.rib_report.specs.Texts.{TextState, Adds, empty_buffer}
+use Rattle.report_lines.specs.Texts.{TextState, Adds, empty_buffer}
 use Rattle.rib_report.specs.Reports.{entry_row}
 use Rattle.rib_report.specs.Listings.{reached_lines}
 use Rattle.rib_report.specs.LineBlocks.{AreSuccessive, lines_between, range_of}
-use Rattle.rib_report.proofs.TextLaws.{Adds_trans, Adds_as, Adds_none, text_begun}
-use Rattle.rib_report.proofs.JoinLaws.{between_join}
+use Rattle.report_lines.proofs.TextLaws.{Adds_trans, Adds_as, Adds_none, text_begun}
+use Rattle.report_lines.proofs.JoinLaws.{between_join}
 
 -- the lines of a range behind those of the one before
 pub Adds_next : {s t u : TextState} (peer : ShownPeer) (entries : List (RouteKey × Route)) (i j k : ℕ) → i ≤ j → j ≤ k

@@ -1,20 +1,16 @@
 -- The lines of what happened.
-use Rattle.std.specs.Prelude.{ℕ, List, [], ◌∷◌, ◌++◌, map, Option, Some, None, codes}
-use Rattle.bgp_update.specs.declared.route.Route.{Route}
+use Rattle.std.specs.Prelude.{ℕ, List, [], ◌∷◌, ◌++◌, codes}
 use Rattle.adj_rib.specs.declared.outcome.What.{What}
 use Rattle.adj_rib.specs.declared.outcome.What.TheVariants.{New, Changed, Same, Gone, Void, Lost}
 use Rattle.peer_tables.specs.declared.history.By.{By}
 use Rattle.peer_tables.specs.declared.history.By.TheVariants.{Rib, Update, State}
 use Rattle.peer_tables.specs.Histories.{RowState}
-use Rattle.report_request.specs.declared.column.Column.{Column}
 use Rattle.report_request.specs.declared.column.Column.TheVariants as column
 use Rattle.report_request.specs.declared.column.Key.TheVariants as key
-use Rattle.report_request.specs.Columns.{attribute_columns, column_keys}
 use Rattle.report_request.specs.Plain.{Layout}
-use Rattle.rib_report.specs.Cells.{Cell, line_by, word}
-use Rattle.rib_report.specs.Fields.{time_text}
-use Rattle.rib_report.specs.KeptTexts.{kept_cells}
-use Rattle.rib_report.specs.Lines.{key_cell, path_cell, peer_cell, route_cells}
+use Rattle.report_lines.specs.Cells.{Cell, line_by, word}
+use Rattle.report_lines.specs.Fields.{time_text}
+use Rattle.report_lines.specs.RouteLines.{key_cell, listed_cells, peer_cell}
 
 abbrev pub what_text : What → List ℕ
 what_text New = codes "new"
@@ -28,17 +24,6 @@ abbrev pub by_text : By → List ℕ
 by_text Rib = codes "rib"
 by_text Update = codes "update"
 by_text State = codes "state"
-
--- `-` and `null` where there is no route, and no origin AS
-abbrev pub absent : Column → Cell
-absent c = record { column = c; text = codes "-"; values = map (λ k. codes "null") (column_keys c) }
-
-abbrev pub no_route : List Cell
-no_route = path_cell None ∷ map absent attribute_columns
-
-abbrev pub listed_cells : Layout → Option Route → List Cell
-listed_cells layout None = no_route ++ kept_cells layout.attributes []
-listed_cells layout (Some route) = route_cells layout route
 
 abbrev pub moment : ℕ → Cell
 moment time = record { column = column.Time; text = time_text time; values = time_text time ∷ [] }

@@ -1,15 +1,8 @@
-pub mod Texts
-pub mod Fields
-pub mod Cells
 pub mod Plain
 pub mod Merges
 pub mod Rows
 pub mod Reports
+pub mod Lines
+pub mod HistoryLines
 pub mod Listings
 pub mod LineBlocks
-pub mod KeptTexts
-pub mod Lines
-pub mod LineParts
-pub mod UnitReports
-pub mod HistoryLines
-pub mod JsonValues

@@ -3,7 +3,7 @@ use Rattle.std.specs.Prelude.{◌≡◌, ℕ, ◌≤◌, List, [], ◌∷◌, fa
 use Rattle.std.specs.List.{All, between}
 use Rattle.bgp_prefix.specs.Keys.{RouteKey}
 use Rattle.bgp_update.specs.declared.route.Route.{Route}
-use Rattle.rib_report.specs.Plain.{ShownPeer}
+use Rattle.report_lines.specs.Plain.{ShownPeer}
 use Rattle.rib_report.specs.Listings.{reached_lines}
 use Rattle.rib_report.specs.declared.reports.tables.line_block.LineBlock.{LineBlock}
 

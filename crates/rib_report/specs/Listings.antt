@@ -4,7 +4,7 @@ use Rattle.std.specs.List.{flat_map}
 use Rattle.bgp_prefix.specs.Keys.{RouteKey}
 use Rattle.bgp_update.specs.declared.route.Route.{Route}
 use Rattle.report_request.specs.Plain.{Layout}
-use Rattle.rib_report.specs.Plain.{ShownPeer}
+use Rattle.report_lines.specs.Plain.{ShownPeer}
 use Rattle.peer_tables.specs.Tables.{Seat}
 use Rattle.rib_report.specs.Reports.{entry_row, rows_of_seat}
 use Rattle.rib_report.specs.Lines.{route_line}

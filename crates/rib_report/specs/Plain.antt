@@ -1,15 +1,9 @@
--- Shown peers and rows, with prefixes of either family.
+-- Rows, with prefixes of either family.
 use Rattle.bgp_prefix.specs.Prefixes.{IpPrefix}
-use Rattle.bgp_update.specs.Families.{FamilyOf}
-use Rattle.rib_report.specs.declared.field.ShownPeer.{ShownPeer as ShownPeerOf}
 use Rattle.rib_report.specs.declared.reports.tables.TableRow.{TableRow as BorrowingRowOf}
 use Rattle.rib_report.specs.declared.reports.visibility.VisibilityRow.{VisibilityRow as VisibilityRowOf}
 use Rattle.rib_report.specs.declared.reports.origins.OriginRow.{OriginRow as OriginRowOf}
 use Rattle.rib_report.specs.declared.reports.seen.SeenRow.{SeenRow as SeenRowOf}
-
--- a peer, and the layout of its lines
-abbrev pub ShownPeer : Type 0
-ShownPeer = ShownPeerOf FamilyOf
 
 -- an entry of a peer's table, with a route that it borrows
 abbrev pub BorrowingRow : Type 0

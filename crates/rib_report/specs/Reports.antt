@@ -15,8 +15,6 @@ use Rattle.bgp_update.specs.Paths.{origin_as_of}
 use Rattle.peer_units.specs.declared.unit.PeerKey.{PeerKey}
 use Rattle.peer_units.specs.declared.unit.Place.{Place}
 use Rattle.peer_units.specs.declared.unit.Damage.{Damage}
-use Rattle.peer_units.specs.Choices.{Choices}
-use Rattle.adj_rib.specs.Selecting.{is_chosen_entry}
 use Rattle.peer_tables.specs.Histories.{PeerWatch}
 use Rattle.peer_tables.specs.Tables.{Seat, TablesState, all_faults}
 use Rattle.rib_report.specs.Rows.{TableRow}
@@ -28,10 +26,6 @@ use Rattle.rib_report.specs.declared.reports.peers.PeerRow.{PeerRow}
 
 abbrev pub entry_row : PeerKey → RouteKey × Route → TableRow
 entry_row peer e = record { peer = peer; key = e.0; route = e.1 }
-
--- its key and its route are chosen
-abbrev pub is_chosen_row : Choices → TableRow → Bool
-is_chosen_row choices row = is_chosen_entry choices (row.key, row.route)
 
 -- every entry of a peer's table, keys in order
 abbrev pub rows_of_seat : Seat → List TableRow
@@ -191,18 +185,6 @@ abbrev pub seen_rows : TablesState → List SeenRow
 seen_rows tables =
     map (λ e. record { prefix = e.0; origin = e.1; peers = seen_of tables e })
     (in_order prefix_origin_cmp (flat_map seat_prefix_origins tables.seats))
-
--- the origin ASes in the rows of a prefix
-abbrev pub origins_seen : List SeenRow → IpPrefix → List ℕ
-origins_seen rows p = filter_map (λ row. row.origin) (filter (λ row. prefix_eq p row.prefix) rows)
-
--- the tables of those peers that are in a share
-abbrev pub share_of : (PeerKey → Bool) → TablesState → TablesState
-share_of is_in tables = record tables { seats = filter (λ seat. is_in seat.key) tables.seats }
-
--- the tables of all other peers
-abbrev pub rest_of : (PeerKey → Bool) → TablesState → TablesState
-rest_of is_in tables = share_of (λ peer. not (is_in peer)) tables
 
 -- ---- churn
 

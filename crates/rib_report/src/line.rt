@@ -2,11 +2,11 @@
 
 ghost use Rattle.std.specs.Prelude.{◌≡◌, ℕ, ◌+◌, ◌<◌, List, length};
 ghost use Rattle.std.specs.List.{between, flat_map};
-ghost use Rattle.rib_report.specs.Texts.{Adds};
+ghost use Rattle.report_lines.specs.Texts.{Adds};
 ghost use Rattle.report_request.specs.Plain.{Layout};
 
-use crate::text::Text;
 use bgp_update::Unicast;
+use report_lines::Text;
 use report_request::LayoutOf;
 
 /// The content of one line of a report on routes of a family.
@@ -64,7 +64,7 @@ impl<F: Unicast, R: Line<F>> RowList<F> for &[R] {
         self[at].prefetch()
     }
 
-    #[tactic(auto, using(crate::proofs::JoinLaws::Adds_one))]
+    #[tactic(auto, using(report_lines::proofs::JoinLaws::Adds_one))]
     fn put<T: Text>(self, at: usize, text: &mut T, layout: &LayoutOf<F>) {
         self[at].put(text, layout);
     }

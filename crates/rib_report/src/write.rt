@@ -2,13 +2,12 @@
 
 ghost use Rattle.std.specs.Prelude.{◌<◌, ◌≤◌, length};
 ghost use Rattle.std.specs.List.{flat_map};
-ghost use Rattle.rib_report.specs.Texts.{IsOutput};
+ghost use Rattle.report_lines.specs.Texts.{IsOutput};
 
-use crate::buffer::TextBuffer;
 use crate::line::RowList;
-use crate::text::{TextWriter, finish};
 use bgp_update::Unicast;
 use mrt_frame::{ReplayError, Sink};
+use report_lines::{TextBuffer, TextWriter, finish};
 use report_request::LayoutOf;
 
 /// How many rows are prefetched together before their lines are written. Routes lie far apart in memory. Reads

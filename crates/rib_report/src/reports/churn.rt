@@ -6,15 +6,13 @@ ghost use Rattle.peer_tables.specs.Watching.{watch_in};
 ghost use Rattle.rib_report.specs.Reports.{churn_rows, watch_churns};
 ghost use Rattle.rib_report.specs.Lines.{churn_line};
 
-use crate::cells::{columns, if_any, number, put_line};
-use crate::field::time_field;
 use crate::line::Line;
-use crate::text::Text;
 use adj_rib::{Churn, RouteId};
 use bgp_prefix::{Memory, PrefixMap};
 use bgp_update::Unicast;
 use peer_tables::{Tables, Watched};
 use peer_units::PeerKey;
+use report_lines::{Text, columns, if_any, number, put_line, time_field};
 use report_request::{Key, LayoutOf};
 use std::alloc::Global;
 

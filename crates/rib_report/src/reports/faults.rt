@@ -2,22 +2,19 @@
 //! entry, and the number and name of its fault.
 
 ghost use Rattle.std.specs.Prelude.{◌≡◌, ◌+◌, ◌++◌, IfOk};
-ghost use Rattle.mrt_frame.specs.Faults.{fault_name};
 ghost use Rattle.peer_tables.specs.Tables.{all_faults};
 ghost use Rattle.rib_report.specs.Reports.{fault_rows};
 ghost use Rattle.rib_report.specs.Lines.{fault_line};
 
-use crate::cells::{columns, if_any, number, plain, put_line, word};
-use crate::field::{Byte, Field, Joined, entry_field};
 use crate::line::Line;
-use crate::text::Text;
 use adj_rib::RouteId;
 use bgp_prefix::{Memory, PrefixMap};
 use bgp_update::Unicast;
-use ip_text::{DecimalTable, format_text};
-use mrt_frame::Fault;
 use peer_tables::Tables;
 use peer_units::Damage;
+use report_lines::{
+    Byte, Field, Joined, Text, columns, entry_field, if_any, number, plain, put_line, word,
+};
 use report_request::{Key, LayoutOf};
 use std::alloc::Global;
 
@@ -45,22 +42,6 @@ pub fn faults<F: Unicast, M: PrefixMap<RouteId, Addr = F>>(
     let mut rows = gather_faults(alloc, tables)?;
     rows.sort_by_key(|damage| damage.place)?;
     Ok(rows)
-}
-
-/// The name of a fault, with the type of a bad attribute in parentheses.
-impl Field for Fault {
-    ghost text_of = { fault_name };
-
-    ghost longest = { 46 };
-
-    #[tactic(auto, using(ip_text::proofs::FormatLaws::Formats_trans))]
-    fn format(self, bytes: &mut [u8], at: usize, shorts: &DecimalTable) -> usize {
-        let at = format_text(bytes, at, self.name().as_bytes());
-        if let Fault::BadAttribute(code) = self {
-            return Joined(Byte(b'('), Joined(code as u32, Byte(b')'))).format(bytes, at, shorts);
-        }
-        at
-    }
 }
 
 impl<F: Unicast> Line<F> for Damage {

@@ -4,31 +4,33 @@
 ghost use Rattle.std.specs.Prelude.{◌≡◌};
 ghost use Rattle.peer_tables.specs.Histories.{RowState, row_state};
 ghost use Rattle.rib_report.specs.HistoryLines.{by_text, event_cells, history_line, what_text};
-ghost use Rattle.rib_report.specs.LineParts.{line_front, listed_behind};
+ghost use Rattle.report_lines.specs.LineParts.{line_front, listed_behind};
 ghost use Rattle.report_request.specs.declared.format.Format.TheVariants.{Text, Json};
-ghost use Rattle.rib_report.specs.Texts.{Adds};
+ghost use Rattle.report_lines.specs.Texts.{Adds};
 
-use crate::cells::{columns, plain, put_front, route_key, word};
-use crate::field::{Field, Microseconds};
-use crate::json_line::{put_json_route, put_no_route};
-use crate::kept_columns::put_line_end;
 use crate::line::{Line, RowList};
-use crate::route_line::put_text_route;
-use crate::text::Text;
 use adj_rib::What;
 use bgp_prefix::Prefix;
 use bgp_update::{KeptValues, RouteRef, Unicast};
 use ip_text::{DecimalTable, WrittenAddress, format_text};
 use peer_tables::{By, HistoryRow, HistoryRows};
+use report_lines::{
+    Field, Microseconds, Text, columns, plain, put_front, put_json_route, put_line_end,
+    put_no_route, put_text_route, route_key, word,
+};
 use report_request::{Format, Key, LayoutOf};
 
-impl Field for What {
-    ghost text_of = { what_text };
+/// What happened to a key.
+#[derive(Clone, Copy)]
+struct Happened(What);
+
+impl Field for Happened {
+    ghost text_of = { λ h. what_text h.0 };
 
     ghost longest = { 7 };
 
     fn format(self, bytes: &mut [u8], at: usize, _shorts: &DecimalTable) -> usize {
-        match self {
+        match self.0 {
             What::New => format_text(bytes, at, b"new"),
             What::Changed => format_text(bytes, at, b"changed"),
             What::Same => format_text(bytes, at, b"same"),
@@ -39,17 +41,22 @@ impl Field for What {
     }
 }
 
-impl Field for By {
-    ghost text_of = { by_text };
+/// What brought it about.
+#[derive(Clone, Copy)]
+struct BroughtBy(By);
+
+impl Field for BroughtBy {
+    ghost text_of = { λ b. by_text b.0 };
 
     ghost longest = { 6 };
 
     fn format(self, bytes: &mut [u8], at: usize, _shorts: &DecimalTable) -> usize {
-        match self {
-            By::Rib => format_text(bytes, at, b"rib"),
-            By::Update => format_text(bytes, at, b"update"),
-            By::State => format_text(bytes, at, b"state"),
-        }
+        let word: &[u8] = match self.0 {
+            By::Rib => b"rib",
+            By::Update => b"update",
+            By::State => b"state",
+        };
+        format_text(bytes, at, word)
     }
 }
 
@@ -96,8 +103,8 @@ fn put_event<T: Text, F: WrittenAddress>(
     let cells = columns!(
         plain!(Key::Timestamp, Microseconds(row.time)),
         peer(layout, row.peer),
-        word!(Key::What, row.what),
-        word!(Key::By, row.by),
+        word!(Key::What, Happened(row.what)),
+        word!(Key::By, BroughtBy(row.by)),
         route_key!(layout, row.key)
     );
     put_front(text, layout.format, cells);

@@ -7,18 +7,14 @@ ghost use Rattle.rib_report.specs.Reports.{route_origin, origin_pair, seat_origi
 ghost use Rattle.rib_report.specs.Lines.{origin_line};
 ghost use Rattle.peer_tables.specs.Seats.{seat_of};
 
-use crate::buffer::put;
-use crate::cells::prefix;
-use crate::field::{Byte, Joined};
 use crate::line::Line;
 use crate::merge::{Listed, Mergeable, list_peers};
-use crate::numbers::put_numbers;
-use crate::text::Text;
 use adj_rib::RouteId;
 use bgp_prefix::{Family, Memory, Prefix, PrefixMap, RouteKey, Sequence};
 use bgp_update::{RouteRef, Unicast};
 use ip_text::WrittenAddress;
 use peer_tables::{Seated, Tables};
+use report_lines::{Byte, Joined, Text, prefix, put, put_numbers};
 use report_request::{Format, LayoutOf};
 use std::alloc::Global;
 use std::cmp::Ordering;

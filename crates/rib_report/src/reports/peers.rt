@@ -7,15 +7,15 @@ ghost use Rattle.peer_tables.specs.Seats.{seat_of};
 ghost use Rattle.rib_report.specs.Reports.{peer_row, peer_rows};
 ghost use Rattle.rib_report.specs.Lines.{entry_of, file_of, offset_of, peer_line};
 
-use crate::cells::{columns, if_any, number, put_line, word};
-use crate::field::{SessionUp, entry_field, time_field};
 use crate::line::Line;
-use crate::text::Text;
 use adj_rib::RouteId;
 use bgp_prefix::{Memory, PrefixMap};
 use bgp_update::Unicast;
 use peer_tables::{Seated, Tables};
 use peer_units::{PeerKey, Place};
+use report_lines::{
+    SessionUp, Text, columns, entry_field, if_any, number, put_line, time_field, word,
+};
 use report_request::{Key, LayoutOf};
 use std::alloc::Global;
 

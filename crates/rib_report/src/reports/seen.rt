@@ -8,15 +8,14 @@ ghost use Rattle.rib_report.specs.Reports.{origin_cmp, prefix_origin_cmp, seat_p
 ghost use Rattle.rib_report.specs.Lines.{seen_line};
 ghost use Rattle.peer_tables.specs.Seats.{seat_of};
 
-use crate::cells::{columns, if_any, number, prefix, put_line};
 use crate::line::Line;
 use crate::merge::{Listed, Mergeable, count_once, list_peers};
-use crate::text::Text;
 use adj_rib::RouteId;
 use bgp_prefix::{Family, Memory, Prefix, PrefixMap};
 use bgp_update::Unicast;
 use ip_text::WrittenAddress;
 use peer_tables::{Seated, Tables};
+use report_lines::{Text, columns, if_any, number, prefix, put_line};
 use report_request::{Key, LayoutOf};
 use std::alloc::Global;
 use std::cmp::Ordering;

@@ -15,13 +15,9 @@ ghost use Rattle.rib_report.specs.Rows.{table_row};
 ghost use Rattle.rib_report.specs.Reports.{rows_of_seat, route_rows};
 ghost use Rattle.rib_report.specs.Listings.{reached_lines, seat_lines, most_entries};
 ghost use Rattle.rib_report.specs.Lines.{route_line};
-ghost use Rattle.rib_report.specs.Texts.{Adds};
+ghost use Rattle.report_lines.specs.Texts.{Adds};
 
-use crate::buffer::TextBuffer;
-use crate::field::{PeerText, ShownPeer, ShownPeerOf};
 use crate::line::Line;
-use crate::route_line::{AsJson, AsText, RowFormat, put_row};
-use crate::text::{Text, TextWriter, finish};
 use crate::write::{NEAR_ROWS, next_rows};
 use adj_rib::RouteId;
 use bgp_prefix::{Family, Memory, Prefix, PrefixMap, RouteKey};
@@ -31,6 +27,10 @@ use mrt_frame::{ReplayError, Sink};
 use parallel::{LineBlocks, put_all_entries};
 use peer_tables::{Seated, Tables};
 use peer_units::PeerKey;
+use report_lines::{
+    AsJson, AsText, PeerText, RowFormat, ShownPeer, ShownPeerOf, Text, TextBuffer, TextWriter,
+    finish, put_row,
+};
 use report_request::{Format, LayoutOf};
 use std::alloc::Global;
 use std::marker::Sync;

@@ -10,15 +10,14 @@ ghost use Rattle.rib_report.specs.Merges.{by_key, counted_both};
 ghost use Rattle.rib_report.specs.Reports.{seat_prefixes, visible_among, visibility_rows};
 ghost use Rattle.rib_report.specs.Lines.{visibility_line};
 
-use crate::cells::{columns, number, prefix, put_line};
 use crate::line::Line;
 use crate::merge::{Listed, Mergeable, count_once, list_peers};
-use crate::text::Text;
 use adj_rib::{RouteId, RouteTable};
 use bgp_prefix::{Family, Memory, Prefix, PrefixMap};
 use bgp_update::Unicast;
 use ip_text::WrittenAddress;
 use peer_tables::{Seated, Tables};
+use report_lines::{Text, columns, number, prefix, put_line};
 use report_request::{Key, LayoutOf};
 use std::alloc::Global;
 use std::cmp::Ordering;

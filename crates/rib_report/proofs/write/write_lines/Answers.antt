@@ -1,6 +1,6 @@
 use Rattle.std.proofs.Common.{◌+◌, arith, rules}
-use Rattle.rib_report.proofs.TextLaws.{text_begun, output_at}
-use Rattle.rib_report.proofs.JoinLaws.{Adds_items, Adds_range}
+use Rattle.report_lines.proofs.TextLaws.{text_begun, output_at}
+use Rattle.report_lines.proofs.JoinLaws.{Adds_items, Adds_range}
 use Rattle.rib_report.proofs.write.write_lines.Goals as goal
 
 pub loop-at-preserved : goal.loop-at-preserved

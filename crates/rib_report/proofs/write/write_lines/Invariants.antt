@@ -1,7 +1,7 @@
 -- the lines so far
 use Rattle.std.proofs.Common.{take}
 use Rattle.std.specs.List.{flat_map}
-use Rattle.rib_report.specs.Texts.{Adds, text_state}
+use Rattle.report_lines.specs.Texts.{Adds, text_state}
 use Rattle.rib_report.proofs.write.write_lines.Given as goal
 
 abbrev pub invariant-loop-at : goal.invariant-loop-at

@@ -1,19 +1,18 @@
 //! The lines of some successive entries of one peer, which a thread makes while another one writes.
 
 ghost use Rattle.std.specs.Prelude.{◌≡◌, ◌<◌, ◌≤◌, length, take};
-ghost use Rattle.rib_report.specs.Texts.{Adds};
+ghost use Rattle.report_lines.specs.Texts.{Adds};
 ghost use Rattle.rib_report.specs.Listings.{reached_lines};
 ghost use Rattle.rib_report.specs.LineBlocks.{IsFilled, lines_between, range_of};
 
 use super::{prefetch_entries, put_entries};
-use crate::buffer::{PIECE_BYTES, TextBuffer};
-use crate::field::{PeerText, ShownPeerOf};
-use crate::route_line::{AsJson, AsText, RowFormat};
-use crate::text::{Text, TextAhead};
 use crate::write::NEAR_ROWS;
 use bgp_prefix::{Prefix, RouteKey};
 use bgp_update::RouteRef;
 use ip_text::WrittenAddress;
+use report_lines::{
+    AsJson, AsText, PIECE_BYTES, PeerText, RowFormat, ShownPeerOf, Text, TextAhead, TextBuffer,
+};
 use report_request::Format;
 
 /// The most bytes of a line in either format without the numbers of its path, and the room that its last piece asks

@@ -3,17 +3,16 @@
 ghost use Rattle.std.specs.Prelude.{◌≡◌, ◌<◌, ◌≤◌, length, map};
 ghost use Rattle.std.specs.List.{All};
 ghost use Rattle.std.specs.Thread.{IsSync};
-ghost use Rattle.rib_report.specs.Texts.{Adds};
+ghost use Rattle.report_lines.specs.Texts.{Adds};
 ghost use Rattle.rib_report.specs.Listings.{reached_lines};
 ghost use Rattle.rib_report.specs.LineBlocks.{AreRanges, IsFilled, AreSuccessive, lines_between, range_of};
 
 use super::line_block::{LineBlock, put_line_block};
 use super::put_entries;
-use crate::field::ShownPeerOf;
-use crate::text::Text;
 use bgp_prefix::{Memory, Prefix, RouteKey};
 use bgp_update::RouteRef;
 use ip_text::WrittenAddress;
+use report_lines::{ShownPeerOf, Text};
 use std::alloc::Global;
 use std::marker::Sync;
 use std::mem;

@@ -5,4 +5,4 @@ pub put_front-requires : goal.put_front-requires
 put_front-requires g c = let few = g.met.F.WrittenAddress.few in omega (arith, few)
 
 pub returns : goal.returns
-returns g c = rw (c.identifier_if_any-id.ensures) at c.put_front.ensures
+returns g c = rw (c.route_key-identifier_if_any.ensures) at c.put_front.ensures

@@ -1,8 +1,8 @@
 use Rattle.std.proofs.Common.{Option, ap, sym}
 use Rattle.bgp_update.specs.declared.route.Route.{Route}
 use Rattle.report_request.specs.declared.format.Format.TheVariants.{Text}
-use Rattle.rib_report.specs.LineParts.{listed_behind}
-use Rattle.rib_report.proofs.TextLaws.{Adds_as, Adds_trans}
+use Rattle.report_lines.specs.LineParts.{listed_behind}
+use Rattle.report_lines.proofs.TextLaws.{Adds_as, Adds_trans}
 use Rattle.rib_report.proofs.reports.history.put_text_listed.Goals as goal
 
 pub returns-in-None : goal.returns-in-None

@@ -4,7 +4,7 @@ use Rattle.mrt_frame.specs.declared.error.ReplayError.{ReplayError}
 use Rattle.mrt_frame.specs.declared.error.ReplayError.TheVariants.{Memory, Write}
 use Rattle.std.specs.List.{flat_map}
 use Rattle.rib_report.specs.Listings.{seat_lines}
-use Rattle.rib_report.proofs.TextLaws.{Adds_as, text_begun, output_at}
+use Rattle.report_lines.proofs.TextLaws.{Adds_as, text_begun, output_at}
 use Rattle.rib_report.proofs.LineBlockLaws.{lines_of_seats}
 use Rattle.rib_report.proofs.reports.tables.list_tables.Goals as goal
 

@@ -1,6 +1,6 @@
 use Rattle.rib_report.specs.Lines.{route_line}
 use Rattle.rib_report.specs.Reports.{entry_row}
-use Rattle.rib_report.proofs.JoinLaws.{Adds_item, Adds_items}
+use Rattle.report_lines.proofs.JoinLaws.{Adds_item, Adds_items}
 use Rattle.rib_report.proofs.reports.tables.put_block_as.Goals as goal
 
 pub loop-entry-preserved : goal.loop-entry-preserved

@@ -1,11 +1,11 @@
 use Rattle.std.proofs.Common.{arith, ap}
 use Rattle.std.specs.List.{between}
-use Rattle.rib_report.specs.Plain.{ShownPeer}
+use Rattle.report_lines.specs.Plain.{ShownPeer}
 use Rattle.rib_report.specs.Listings.{reached_lines}
-use Rattle.rib_report.proofs.TextLaws.{Adds_as}
+use Rattle.report_lines.proofs.TextLaws.{Adds_as}
 use Rattle.rib_report.specs.Lines.{route_line}
 use Rattle.rib_report.specs.Reports.{entry_row}
-use Rattle.rib_report.proofs.JoinLaws.{Adds_range, Adds_items, Adds_failed}
+use Rattle.report_lines.proofs.JoinLaws.{Adds_range, Adds_items, Adds_failed}
 use Rattle.rib_report.proofs.reports.tables.put_entries.Goals as goal
 
 pub returns-then-has_failed : goal.returns-then-has_failed

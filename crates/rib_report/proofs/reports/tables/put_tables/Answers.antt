@@ -3,8 +3,8 @@ use Rattle.std.specs.FinMap as finite
 use Rattle.peer_tables.specs.Seats.{seat_of}
 use Rattle.peer_tables.proofs.RowLaws.{flat_map_twice}
 use Rattle.rib_report.specs.Listings.{reached_lines, seat_lines}
-use Rattle.rib_report.proofs.TextLaws.{Adds_as}
-use Rattle.rib_report.proofs.JoinLaws.{Adds_item, Adds_items}
+use Rattle.report_lines.proofs.TextLaws.{Adds_as}
+use Rattle.report_lines.proofs.JoinLaws.{Adds_item, Adds_items}
 use Rattle.rib_report.proofs.LineBlockLaws.{lines_of_seat, most_at}
 use Rattle.rib_report.proofs.reports.tables.put_tables.Goals as goal
 

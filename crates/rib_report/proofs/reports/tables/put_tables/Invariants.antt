@@ -3,7 +3,7 @@ use Rattle.std.proofs.Common.{◌≤◌, map, take}
 use Rattle.std.specs.Prelude.{vec_capacity}
 use Rattle.std.specs.List.{flat_map}
 use Rattle.peer_tables.specs.Seats.{seat_of}
-use Rattle.rib_report.specs.Texts.{Adds}
+use Rattle.report_lines.specs.Texts.{Adds}
 use Rattle.rib_report.specs.Listings.{seat_lines, most_entries}
 use Rattle.rib_report.proofs.reports.tables.put_tables.Given as goal
 

@@ -1,7 +1,7 @@
 use Rattle.std.proofs.Common.{ap, sym}
 use Rattle.peer_tables.specs.Histories.{row_state}
-use Rattle.rib_report.specs.LineParts.{listed_behind}
-use Rattle.rib_report.proofs.TextLaws.{Adds_as, Adds_trans}
+use Rattle.report_lines.specs.LineParts.{listed_behind}
+use Rattle.report_lines.proofs.TextLaws.{Adds_as, Adds_trans}
 use Rattle.rib_report.proofs.HistoryParts.{history_in_parts}
 use Rattle.rib_report.proofs.reports.history.HistoryRowPrefixLine.put.Goals as goal
 

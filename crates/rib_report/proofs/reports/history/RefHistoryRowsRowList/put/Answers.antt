@@ -2,7 +2,7 @@ use Rattle.std.proofs.Common.{sym}
 use Rattle.std.proofs.lemmas.Option.{get_or_from_slice_get}
 use Rattle.peer_tables.specs.Histories.{RowState, row_state}
 use Rattle.rib_report.specs.HistoryLines.{history_line}
-use Rattle.rib_report.proofs.JoinLaws.{Adds_one}
+use Rattle.report_lines.proofs.JoinLaws.{Adds_one}
 use Rattle.rib_report.proofs.reports.history.RefHistoryRowsRowList.put.Goals as goal
 
 pub returns : goal.returns

@@ -1,8 +1,9 @@
 use Rattle.std.proofs.Common.{◌∙◌, ◌∷◌, [], ap, sym}
-use Rattle.rib_report.specs.Cells.{line_by}
-use Rattle.rib_report.specs.Lines.{origins_cell, prefix_cell}
-use Rattle.rib_report.proofs.TextLaws.{Adds_as, Adds_trans}
-use Rattle.rib_report.proofs.RowLines.{origins_in_json}
+use Rattle.report_lines.specs.Cells.{line_by}
+use Rattle.rib_report.specs.Lines.{origins_cell}
+use Rattle.report_lines.specs.RouteLines.{prefix_cell}
+use Rattle.report_lines.proofs.TextLaws.{Adds_as, Adds_trans}
+use Rattle.rib_report.proofs.OriginParts.{origins_in_json}
 use Rattle.rib_report.proofs.reports.origins.OriginRowPrefixLine.put.Goals as goal
 
 pub returns-in-Json : goal.returns-in-Json

@@ -1,8 +1,8 @@
 use Rattle.std.proofs.Common.{ap}
 use Rattle.rib_report.specs.Rows.{table_row}
 use Rattle.rib_report.specs.Lines.{route_line}
-use Rattle.rib_report.specs.Plain.{ShownPeer}
-use Rattle.rib_report.proofs.TextLaws.{Adds_as}
+use Rattle.report_lines.specs.Plain.{ShownPeer}
+use Rattle.report_lines.proofs.TextLaws.{Adds_as}
 use Rattle.rib_report.proofs.reports.tables.TableRowPrefixLine.put.Goals as goal
 
 pub returns : goal.returns

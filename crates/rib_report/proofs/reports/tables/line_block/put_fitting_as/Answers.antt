@@ -1,6 +1,6 @@
 use Rattle.rib_report.specs.Lines.{route_line}
 use Rattle.rib_report.specs.Reports.{entry_row}
-use Rattle.rib_report.proofs.JoinLaws.{Adds_item}
+use Rattle.report_lines.proofs.JoinLaws.{Adds_item}
 use Rattle.rib_report.proofs.reports.tables.line_block.put_fitting_as.Goals as goal
 
 pub loop-at-preserved : goal.loop-at-preserved

@@ -1,6 +1,6 @@
 -- the lines so far
 use Rattle.std.proofs.Common.{take}
-use Rattle.rib_report.specs.Texts.{Adds}
+use Rattle.report_lines.specs.Texts.{Adds}
 use Rattle.rib_report.specs.Listings.{reached_lines}
 use Rattle.rib_report.proofs.reports.tables.line_block.put_fitting_as.Given as goal
 

@@ -1,5 +1,5 @@
 use Rattle.std.proofs.Common.{◌∙◌, ap}
-use Rattle.rib_report.proofs.TextLaws.{Adds_as}
+use Rattle.report_lines.proofs.TextLaws.{Adds_as}
 use Rattle.rib_report.proofs.LineBlockLists.{Adds_next}
 use Rattle.rib_report.proofs.reports.tables.line_block.put_line_block.Goals as goal
 

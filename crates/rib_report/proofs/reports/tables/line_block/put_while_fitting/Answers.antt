@@ -1,8 +1,8 @@
 use Rattle.std.proofs.Common.{arith, ap, take}
 use Rattle.std.specs.List.{between}
-use Rattle.rib_report.specs.Plain.{ShownPeer}
+use Rattle.report_lines.specs.Plain.{ShownPeer}
 use Rattle.rib_report.specs.Listings.{reached_lines}
-use Rattle.rib_report.proofs.TextLaws.{Adds_as}
+use Rattle.report_lines.proofs.TextLaws.{Adds_as}
 use Rattle.rib_report.proofs.LineBlockLists.{Adds_some, no_lines}
 use Rattle.rib_report.proofs.reports.tables.line_block.put_while_fitting.Goals as goal
 

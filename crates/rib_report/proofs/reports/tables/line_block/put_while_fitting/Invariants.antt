@@ -1,6 +1,6 @@
 -- the lines so far
 use Rattle.std.proofs.Common.{◌<◌, ◌≤◌, ◌-◌}
-use Rattle.rib_report.specs.Texts.{Adds}
+use Rattle.report_lines.specs.Texts.{Adds}
 use Rattle.rib_report.specs.LineBlocks.{lines_between}
 use Rattle.rib_report.proofs.reports.tables.line_block.put_while_fitting.Given as goal
 

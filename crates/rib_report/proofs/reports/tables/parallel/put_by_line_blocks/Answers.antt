@@ -4,8 +4,8 @@ use Rattle.std.specs.List.{All}
 use Rattle.rib_report.specs.Lines.{route_line}
 use Rattle.rib_report.specs.Reports.{entry_row}
 use Rattle.rib_report.specs.Listings.{reached_lines}
-use Rattle.rib_report.proofs.TextLaws.{Adds_as}
-use Rattle.rib_report.proofs.JoinLaws.{Adds_failed}
+use Rattle.report_lines.proofs.TextLaws.{Adds_as}
+use Rattle.report_lines.proofs.JoinLaws.{Adds_failed}
 use Rattle.rib_report.specs.LineBlocks.{AreRanges, AreSuccessive, IsFilled, range_of}
 use Rattle.rib_report.proofs.LineBlockLists.{Adds_next, no_lines, written_back}
 use Rattle.rib_report.proofs.reports.tables.parallel.put_by_line_blocks.Goals as goal

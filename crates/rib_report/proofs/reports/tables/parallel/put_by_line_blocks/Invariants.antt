@@ -1,7 +1,7 @@
 -- the blocks that are filled come next
 use Rattle.std.proofs.Common.{◌<◌, ◌≤◌, ◌-◌, map, length}
 use Rattle.std.specs.List.{All}
-use Rattle.rib_report.specs.Texts.{Adds}
+use Rattle.report_lines.specs.Texts.{Adds}
 use Rattle.rib_report.specs.LineBlocks.{AreSuccessive, IsFilled, lines_between, range_of}
 use Rattle.rib_report.proofs.reports.tables.parallel.put_by_line_blocks.Given as goal
 

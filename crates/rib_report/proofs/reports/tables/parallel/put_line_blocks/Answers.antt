@@ -1,7 +1,7 @@
 use Rattle.std.proofs.Common.{◌≡◌, ◌+◌, ◌∙◌, ◌∷◌, arith, sym, ap, subst, drop}
 use Rattle.std.proofs.lemmas.List.{drop_more, drop_all}
 use Rattle.rib_report.specs.LineBlocks.{IsFilled, lines_between}
-use Rattle.rib_report.proofs.TextLaws.{Adds_as}
+use Rattle.report_lines.proofs.TextLaws.{Adds_as}
 use Rattle.rib_report.proofs.LineBlockLists.{Adds_next, first_range, no_range}
 use Rattle.rib_report.proofs.reports.tables.parallel.put_line_blocks.Goals as goal
 

@@ -1,6 +1,6 @@
 -- the lines so far end where the next block begins
 use Rattle.std.proofs.Common.{ℕ, ◌≤◌, map, drop}
-use Rattle.rib_report.specs.Texts.{Adds}
+use Rattle.report_lines.specs.Texts.{Adds}
 use Rattle.rib_report.specs.LineBlocks.{AreSuccessive, lines_between, range_of}
 use Rattle.rib_report.proofs.reports.tables.parallel.put_line_blocks.Given as goal
 

@@ -1,0 +1,6 @@
+use Rattle.std.proofs.Common.{rules}
+use Rattle.report_lines.proofs.TextLaws.{Adds_formatted}
+use Rattle.report_lines.proofs.buffer.put_peer_and_key.Goals as goal
+
+pub returns : goal.returns
+returns g c = Adds_formatted c.make_room.ensures.adds c.format_beginning-buffer-inside.ensures (search rules) (search rules)

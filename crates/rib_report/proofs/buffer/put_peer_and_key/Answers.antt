@@ -1,6 +1,0 @@
-use Rattle.std.proofs.Common.{rules}
-use Rattle.rib_report.proofs.TextLaws.{Adds_formatted}
-use Rattle.rib_report.proofs.buffer.put_peer_and_key.Goals as goal
-
-pub returns : goal.returns
-returns g c = Adds_formatted c.make_room.ensures.adds c.format_beginning-buffer-inside.ensures (search rules) (search rules)

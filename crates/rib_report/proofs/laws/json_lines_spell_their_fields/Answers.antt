@@ -1,7 +1,0 @@
-use Rattle.std.specs.Prelude.{decimal}
-use Rattle.rib_report.proofs.JsonLaws.{lines_spell}
-use Rattle.rib_report.proofs.ValueLaws.{bare_is_value, decimal_is_bare, quoted_is_value}
-use Rattle.rib_report.proofs.laws.json_lines_spell_their_fields.Goals as goal
-
-pub returns : goal.returns
-returns c = record { lines = lines_spell; numbers = λ n. bare_is_value (decimal n) (decimal_is_bare n); texts = quoted_is_value }

@@ -1,5 +1,0 @@
-use Rattle.rib_report.proofs.DefinedLaws.{origins_from_row, row_from_origins, origins_sorted}
-use Rattle.rib_report.proofs.laws.origins_are_of_all_routes.Goals as goal
-
-pub returns : goal.returns
-returns c = record { rows = λ tables prefix origins. (origins_from_row tables prefix origins, row_from_origins tables prefix origins); sorted = origins_sorted }
